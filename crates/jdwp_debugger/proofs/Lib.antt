@@ -19,3 +19,6 @@ pub mod ReportedReads
 pub mod SizesReads
 pub mod Judged
 pub mod Telling
+pub mod TakenFirst
+pub mod ProtocolTurns
+pub mod ProtocolAsks

@@ -11,6 +11,7 @@ pub mod DebuggerTurns
 pub mod TellsHeads
 pub mod Judging
 pub mod Holding
+pub mod Protocol
 pub mod Histories
 pub mod Runs
 pub mod TakingLaws

@@ -1,5 +1,5 @@
 //! The debugger's end of a session.
-ghost use Rattle.std.specs.Prelude.{◌≡◌, ◌≤◌, ◌<◌, ◌+◌, ◌^◌, ◌++◌, ◌↔◌, [], Contains, IfErr, IfOk, IfSome, IsTrue, MatchOption, None, Some, ℕ, drop, false, length, min, take, true};
+ghost use Rattle.std.specs.Prelude.{◌≡◌, ◌≤◌, ◌<◌, ◌+◌, ◌^◌, ◌++◌, ◌↔◌, [], Contains, IfErr, IfOk, IfSome, IsTrue, MatchOption, None, OnErr, OnOk, Some, ℕ, drop, false, length, min, take, true};
 ghost use Rattle.jdwp_end.specs.declared.phase.Phase.TheVariants.{AwaitingHandshake};
 ghost use Rattle.jdwp_end.specs.Ends as ends;
 ghost use Rattle.jdwp_end.specs.Ends.{front_of, most_outgoing, room_of};
@@ -14,6 +14,7 @@ ghost use Rattle.jdwp_watch.specs.Targets.{CountsAtLeast, InEachTarget, IsSuspen
 ghost use Rattle.jdwp_debugger.specs.declared.order.Order.TheVariants.{One};
 ghost use Rattle.jdwp_debugger.specs.FollowingKept.{following};
 ghost use Rattle.jdwp_mirror.specs.CommandKinds.{object_id};
+ghost use Rattle.jdwp_debugger.specs.Protocol.{IsOver, PutsPacket, WaitsUnder};
 ghost use Rattle.jdwp_debugger.specs.Holding.{at_least, is_held, is_named, named_in, surely};
 ghost use Rattle.std.specs.Map.Iter.{GivesInOrder};
 ghost use Rattle.jdwp_value.specs.declared.id.ObjectId.{ObjectId as Id};
@@ -180,6 +181,28 @@ impl Debugger {
     /// more, or 2^64 - 1 tickets were given; `BadCommand` where the sets 0 to 63 have no such command, or its data don't fit it;
     /// `TooLong` where its packet would have more bytes than one may have; `NoMemory` where an allocation was refused.
     pub fn ask(&mut self, alloc: Global, command: Command) -> Result<Ticket, Refused>
+        // The whole of it: what is left where the command is asked, and why it is not.
+        ensures ok { IfOk result (λ ticket. (refusal_of_ask self.old command ≡ None)
+            × (ticket.0 ≡ self.old.tickets + 1) × HasAsked command self.old self.new) }
+        ensures err { IfErr result (λ e. (self.new ≡ self.old)
+            × IsRefusal e (refusal_of_ask self.old command)) }
+
+        // The packet that waits to leave has the command's set, number and data, and the next id under which no command waits.
+        ensures packet { OnOk result (PutsPacket command self.old self.new) }
+
+        // The command waits for its reply under the ticket; nothing is learned before that comes. A refusal changes nothing.
+        ensures waits { IfOk result (λ ticket. WaitsUnder ticket.0 command self.old self.new) }
+        ensures mirror { self.new.mirror ≡ self.old.mirror }
+        ensures refused { OnErr result (self.new ≡ self.old) }
+    {
+        self.put_command(alloc, command)
+    }
+
+    /// Puts the packet of a command, where it may be asked.
+    ///
+    /// # Errors
+    /// As those of `ask`.
+    fn put_command(&mut self, alloc: Global, command: Command) -> Result<Ticket, Refused>
         ensures ok { IfOk result (λ ticket. (refusal_of_ask self.old command ≡ None)
             × (ticket.0 ≡ self.old.tickets + 1) × HasAsked command self.old self.new) }
         ensures err { IfErr result (λ e. (self.new ≡ self.old)
@@ -256,6 +279,9 @@ impl Debugger {
         ensures tickets { result ≡ tickets_of self.old.pending }
         ensures few { length result ≤ self.old.end.limits.pending }
         ensures lost { self.new ≡ lost_debugger self.old }
+        // The end is closed, the mirror is empty, and no command waits.
+        ensures over { IsOver self.new }
+        ensures none { self.new.pending ≡ [] }
     {
         let lost = Lost::of(&self.pending);
         self.end.lose();
@@ -286,6 +312,9 @@ impl Debugger {
     pub fn feed(&mut self, bytes: &[u8]) -> usize
         ensures count { result ≡ min (length bytes.now) (room_of self.old.end) }
         ensures fed { self.new ≡ with_fed (take result bytes.now) self.old }
+        // They stand behind those that came before, in order, and nothing is learned yet.
+        ensures behind { self.new.end.incoming ≡ self.old.end.incoming ++ take result bytes.now }
+        ensures keeps { self.new.mirror ≡ self.old.mirror }
     {
         self.end.feed(bytes)
     }
@@ -318,6 +347,8 @@ impl Debugger {
         ensures count { result ≡ min (length out.old) (length self.old.end.outgoing) }
         ensures bytes { out.new ≡ take result self.old.end.outgoing ++ drop result out.old }
         ensures taken { self.new ≡ with_taken (take result self.old.end.outgoing) self.old }
+        // They are the beginning of what waited, and the rest still waits.
+        ensures first { take result out.new ++ self.new.end.outgoing ≡ self.old.end.outgoing }
     {
         self.end.take(out)
     }

@@ -1,6 +1,7 @@
 //! Turns of a debugger.
-ghost use Rattle.std.specs.Prelude.{◌≡◌, ◌<◌, ◌++◌, ◌∷◌, [], ℕ, List, IfOk, IfErr, OnOk, Err, None, length, false};
-ghost use Rattle.std.specs.List.{list_any};
+ghost use Rattle.std.specs.Prelude.{◌≡◌, ◌≢◌, ◌<◌, ◌++◌, ◌∷◌, [], ℕ, ℤ, pos, List, IfOk, IfErr, OnOk, Ok, Err, None, Some, length, true, false};
+ghost use Rattle.std.specs.List.{filter, list_any};
+ghost use Rattle.std.specs.Option.{option_map};
 ghost use Rattle.std.specs.Result.{IsErrOf};
 ghost use Rattle.jdwp_wire.specs.Bytes.{IsBytes};
 ghost use Rattle.jdwp_wire.specs.Streams.{Handshake, Packet, Whole};
@@ -13,10 +14,17 @@ ghost use Rattle.jdwp_debugger.specs.Orders.{MayLearn, has_bad_in, none_known};
 ghost use Rattle.jdwp_mirror.specs.FaultParts.{is_dispose_kind};
 ghost use Rattle.jdwp_mirror.specs.KnownThreads.{count_in};
 ghost use Rattle.jdwp_mirror.specs.Messages.{Reply, Ticket as MessageTicket};
-ghost use Rattle.jdwp_mirror.specs.Mirror.{ends};
+ghost use Rattle.jdwp_mirror.specs.Mirror.{ends, has_other_id, one_less, one_more};
 ghost use Rattle.jdwp_mirror.specs.Mirrors.{empty_mirror};
 ghost use Rattle.jdwp_debugger.specs.News as news;
-ghost use Rattle.jdwp_event.specs.Composites.{CompositeMeaning};
+ghost use Rattle.jdwp_event.specs.Composites.{CompositeMeaning, POLICY_ALL, POLICY_NONE};
+ghost use Rattle.jdwp_event.specs.Modifiers.{modifiers_of};
+ghost use Rattle.jdwp_event.specs.Told.{composite_thread, is_vm_death};
+ghost use Rattle.jdwp_layout.specs.Meanings.{DatumMeaning, Int, One, ScalarMeaning};
+ghost use Rattle.jdwp_layout.specs.declared.answer.Answer as meant;
+ghost use Rattle.jdwp_action.specs.Actions as asked;
+ghost use Rattle.jdwp_debugger.specs.Holding.{is_held};
+ghost use Rattle.jdwp_debugger.specs.Protocol.{AnswersOwn, Hears, IsOver, Tells, count};
 
 use crate::debugger::Debugger;
 use crate::faults::DebuggerFault;
@@ -68,6 +76,68 @@ impl Debugger {
     /// leave may still be taken. `NoMemory` where an allocation was refused: nothing has changed. Nothing to handle, a fault of the
     /// bytes and a reply with an error take no memory.
     pub fn turn(&mut self, alloc: Global) -> Result<Read, DebuggerFault>
+        // The whole of it: what is told and left, by what there is to handle.
+        ensures turns { TurnsAt (front_of self.old.end) self.old result self.new }
+        ensures few { IfOk result (λ r. AreFew (read_meaning r)) }
+        ensures memory { IsErrOf result code.NoMemory → MayTakeMemory (front_of self.old.end) }
+
+        // Nothing changes nothing, but for what `last` shows; want of memory changes nothing at all.
+        ensures nothing { result ≡ Ok Read.Nothing → self.new ≡ record self.old { last = [] } }
+        ensures no_memory { result ≡ Err DebuggerFault.NoMemory → self.new ≡ self.old }
+
+        // An answer is told under its own ticket, and of its own command.
+        ensures answered { (ticket : ℕ) (answer : meant.Answer)
+            → Tells (turns.Answered ticket answer) result
+            → AnswersOwn ticket answer self.old self.new }
+
+        // The mirror's suspend counts, in `Order::One`: Suspend raises that of each thread that is known by one, up to 2^31 - 1, Resume
+        // lowers each that is above 0 by one, and SuspendCount tells that of its thread.
+        ensures suspend { (content : List DatumMeaning) → self.old.order ≡ Order.One
+            → Hears asked.Suspend content self.old result → (t : ℕ) → count self.new t
+            ≡ option_map one_more (count self.old t) }
+        ensures resume { (content : List DatumMeaning) → self.old.order ≡ Order.One
+            → Hears asked.Resume content self.old result → (t : ℕ) → count self.new t
+            ≡ option_map one_less (count self.old t) }
+        ensures suspend_count { (t n : ℕ) → self.old.order ≡ Order.One
+            → Hears (asked.SuspendCount t) (One (Int (pos n)) ∷ []) self.old result
+            → count self.new t ≡ Some n }
+
+        // Event.Composite, in `Order::One`: with the policy EVENT_THREAD or ALL its thread has the count 1 and is held, and ALL raises the
+        // count of each other thread that is known by one.
+        ensures event_thread { (c : CompositeMeaning) (t : ℕ) → self.old.order ≡ Order.One
+            → Tells (turns.Seen c) result → c.policy ≢ POLICY_NONE → composite_thread c ≡ Some t
+            → (count self.new t ≡ Some 1) × (is_held self.new t ≡ true) }
+        ensures event_all { (c : CompositeMeaning) (t : ℕ) → self.old.order ≡ Order.One
+            → Tells (turns.Seen c) result → c.policy ≡ POLICY_ALL → composite_thread c ≢ Some t
+            → count self.new t ≡ option_map one_more (count self.old t) }
+
+        // EventRequest.Set: the request is kept under the id that the reply tells, in place of an older one of that id.
+        ensures set { (kind policy : ℕ) (modifiers : List (List ScalarMeaning)) (id : ℤ)
+            → Hears (asked.SetRequest kind policy modifiers) (One (Int id) ∷ []) self.old result
+            → self.new.mirror.requests ≡ filter (has_other_id id) self.old.mirror.requests
+            ++ record {
+              id = id;
+              kind = kind;
+              policy = policy;
+              modifiers = modifiers_of modifiers;
+            } ∷ [] }
+
+        // The end is closed and the mirror empty behind Dispose, behind VM_DEATH, and where a packet is refused.
+        ensures dispose { (content : List DatumMeaning)
+            → Hears asked.Dispose content self.old result → IsOver self.new }
+        ensures vm_death { (c : CompositeMeaning) → Tells (turns.Seen c) result
+            → is_vm_death c ≡ true → IsOver self.new }
+        ensures refused { (fault : DebuggerFault) → result ≡ Err fault
+            → fault ≢ DebuggerFault.NoMemory → IsOver self.new }
+    {
+        self.handle_next(alloc)
+    }
+
+    /// Handles the message in front, if one is whole and the end is neither closed nor paused.
+    ///
+    /// # Errors
+    /// As those of `turn`.
+    fn handle_next(&mut self, alloc: Global) -> Result<Read, DebuggerFault>
         ensures turns { TurnsAt (front_of self.old.end) self.old result self.new }
         ensures few { IfOk result (λ r. AreFew (read_meaning r)) }
         ensures memory { IsErrOf result code.NoMemory → MayTakeMemory (front_of self.old.end) }

@@ -8,6 +8,9 @@ pub mod RightTargets
 pub mod StepLemmas
 pub mod RightTurns
 pub mod Shrinking
+pub mod TakenFirst
+pub mod ProtocolTurns
+pub mod ProtocolSteps
 pub mod Numbered
 pub mod Closing
 pub mod Encoded

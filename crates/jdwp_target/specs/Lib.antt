@@ -7,6 +7,7 @@ pub mod Targets
 pub mod VisitLaws
 pub mod Insides
 pub mod Turns
+pub mod Protocol
 pub mod ReadsBack
 pub mod TurnParts
 pub mod StepParts

@@ -1,7 +1,10 @@
 //! Steps of a target over any machine.
-ghost use Rattle.std.specs.Prelude.{◌≡◌, IfOk};
+ghost use Rattle.std.specs.Prelude.{◌≡◌, ◌<◌, ℕ, Some, Ok, true, IfOk, OnErr};
 ghost use Rattle.jdwp_wire.specs.Streams.{AreSendable};
+ghost use Rattle.jdwp_end.specs.Ends.{is_established};
 ghost use Rattle.jdwp_end.specs.declared.phase.Phase.TheVariants.{Established};
+ghost use Rattle.jdwp_event.specs.Composites.{CompositeMeaning, POLICY_ALL, POLICY_EVENT_THREAD, POLICY_NONE, gathered};
+ghost use Rattle.jdwp_target.specs.Protocol.{IsReported, KeepsCounts, PutsReport, RaisesCountOf, RaisesCounts, count, requests};
 ghost use Rattle.jdwp_target.specs.Sends.{EncodesSent, IsEncoded};
 ghost use Rattle.jdwp_target.specs.Standings.{reports_step, stands, steps_in_session};
 ghost use Rattle.jdwp_target.specs.StepParts.{CanTell, debuggee_after, end_after, step_of, told_of_done};
@@ -26,6 +29,48 @@ impl<M: Machine + Drop> Target<M> {
     /// `NoMemory` where an allocation was refused; only where nothing but a thread too many could forbid the step, and then nothing
     /// has changed.
     pub fn step(&mut self, thread: ObjectId) -> Result<Stepped, TargetFault>
+        // The whole of it: what is told and left, by whether the thread may step. What is sent can be read, and fits the limit.
+        ensures steps { StepsAt M.meaning thread.0 self.old result self.new }
+        ensures encoded { IfOk result (λ stepped. EncodesWhere M.meaning thread.0 self.old
+            (is_frozen M.meaning thread.0 self.old)) }
+        ensures packets { IfOk result (λ stepped. SendsWhere M.meaning thread.0 self.old
+            (is_frozen M.meaning thread.0 self.old)) }
+
+        // A step of a thread that is suspended does nothing. Frozen, and want of memory, leave all as it was.
+        ensures suspended { (n : ℕ) → count self.old thread.0 ≡ Some n → 0 < n
+            → (result ≡ Ok Stepped.Frozen) × (self.new ≡ self.old) }
+        ensures frozen { result ≡ Ok Stepped.Frozen → self.new ≡ self.old }
+        ensures no_memory { OnErr result (self.new ≡ self.old) }
+
+        // Event.Composite: what is reported is the one composite of all requests that the happening passes, with the most suspending of
+        // their policies, and is sent in a session whose handshake is done.
+        ensures reported { result ≡ Ok Stepped.Reported → (c : CompositeMeaning)
+            × (gathered (M.meaning.next self.old.moment.machine thread.0) (requests self.old)
+            ≡ Some c)
+            × (is_established self.old.end ≡ true → PutsReport M.meaning c self.old self.new) }
+
+        // Its policy: ALL raises the suspend count of each live thread by one, EVENT_THREAD that of the event's thread alone, and NONE, and
+        // a step of which nothing is reported, nobody's.
+        ensures policy_all { (c : CompositeMeaning)
+            → IsReported M.meaning thread.0 c self.old result → c.policy ≡ POLICY_ALL
+            → RaisesCounts self.old self.new }
+        ensures policy_event_thread { (c : CompositeMeaning)
+            → IsReported M.meaning thread.0 c self.old result → c.policy ≡ POLICY_EVENT_THREAD
+            → RaisesCountOf (M.meaning.next self.old.moment.machine thread.0).thread self.old
+            self.new }
+        ensures policy_none { (c : CompositeMeaning)
+            → IsReported M.meaning thread.0 c self.old result → c.policy ≡ POLICY_NONE
+            → KeepsCounts self.old self.new }
+        ensures quiet { result ≡ Ok Stepped.Quiet → KeepsCounts self.old self.new }
+    {
+        self.make_step(thread)
+    }
+
+    /// One step of a thread, if the end is not paused and the thread may make one.
+    ///
+    /// # Errors
+    /// As those of `step`.
+    fn make_step(&mut self, thread: ObjectId) -> Result<Stepped, TargetFault>
         ensures steps { StepsAt M.meaning thread.0 self.old result self.new }
         ensures encoded { IfOk result (λ stepped. EncodesWhere M.meaning thread.0 self.old
             (is_frozen M.meaning thread.0 self.old)) }

@@ -267,6 +267,9 @@ impl<M: Machine + Drop> Target<M> {
     pub fn feed(&mut self, bytes: &[u8]) -> usize
         ensures count { result ≡ min (length bytes.now) (room_of self.old.end) }
         ensures fed { self.new ≡ with_fed (take result bytes.now) self.old }
+        // They stand behind those that came before, in order, and nothing is carried out yet.
+        ensures behind { self.new.end.incoming ≡ self.old.end.incoming ++ take result bytes.now }
+        ensures keeps { self.new.moment ≡ self.old.moment }
     {
         self.end.feed(bytes)
     }
@@ -299,6 +302,8 @@ impl<M: Machine + Drop> Target<M> {
         ensures count { result ≡ min (length out.old) (length self.old.end.outgoing) }
         ensures bytes { out.new ≡ take result self.old.end.outgoing ++ drop result out.old }
         ensures taken { self.new ≡ with_taken (take result self.old.end.outgoing) self.old }
+        // They are the beginning of what waited, and the rest still waits.
+        ensures first { take result out.new ++ self.new.end.outgoing ≡ self.old.end.outgoing }
     {
         self.end.take(out)
     }

@@ -1,13 +1,19 @@
 //! Messages as a target over any machine handles them.
-ghost use Rattle.std.specs.Prelude.{◌≡◌, ◌≢◌, ◌≤◌, ◌+◌, ◌∷◌, ℕ, List, Some, None, true, false, length, IfOk, IfErr, OnErr};
+ghost use Rattle.std.specs.Prelude.{◌≡◌, ◌≢◌, ◌≤◌, ◌+◌, ◌-◌, ◌⊎◌, ◌∷◌, ℕ, ℤ, List, Some, None, Ok, Err, true, false, length, IfOk, IfErr, OnErr};
 ghost use Rattle.jdwp_end.specs.Ends.{HasPacketWith, front_of, most_outgoing, with_enqueued};
 ghost use Rattle.jdwp_end.specs.declared.phase.Phase.TheVariants.{Established};
 ghost use Rattle.jdwp_event.specs.Composites.{vm_start};
 ghost use Rattle.jdwp_event.specs.Constants.{policy_byte};
+ghost use Rattle.jdwp_event.specs.Modifiers.{modifiers_of};
+ghost use Rattle.jdwp_event.specs.RequestLists.{without, without_breakpoints};
 ghost use Rattle.jdwp_wire.specs.Bytes.{IsBytes};
+ghost use Rattle.jdwp_wire.specs.declared.frame.FrameFault.{FrameFault};
+ghost use Rattle.jdwp_wire.specs.ErrorCodes.{NONE};
 ghost use Rattle.jdwp_wire.specs.Numbers.{id_refusal};
 ghost use Rattle.jdwp_wire.specs.Streams.{AreSendable, Packet, Whole, message_bytes, stream};
 ghost use Rattle.jdwp_wire.specs.Limits.{least_packet_limit, most_packet_limit};
+ghost use Rattle.jdwp_layout.specs.Meanings.{ScalarMeaning};
+ghost use Rattle.jdwp_action.specs.Actions as asked;
 ghost use Rattle.jdwp_action.specs.CommandReads.{command_read};
 ghost use Rattle.jdwp_debuggee.specs.Askings.{asked_meaning, asks, is_short};
 ghost use Rattle.jdwp_action.specs.AnswerPackets.{EncodesAnswer};
@@ -22,6 +28,7 @@ ghost use Rattle.jdwp_target.specs.Standings.{carried_out, greets_by, stands};
 ghost use Rattle.jdwp_target.specs.StepParts.{debuggee_after};
 ghost use Rattle.jdwp_target.specs.TurnParts.{IsCarriedOut, IsDone, ReadsPacket, after_deaths, closed_where, deaths, reply_of};
 ghost use Rattle.jdwp_target.specs.Turns.{EncodesNext, SendsAt, TurnsAt};
+ghost use Rattle.jdwp_target.specs.Protocol.{AddsRequest, Answers, EachCount, HasReplied, IsOver, OneCount, requests};
 ghost use Rattle.jdwp_target.specs.Visits.{visits_hello, visits_read};
 
 use crate::deferral::may_be_deferred;
@@ -89,6 +96,61 @@ impl<M: Machine + Drop> Target<M> {
     /// EventRequest.Set whose kind or policy is refused, or for which there is no room; and a question without data that its machine
     /// refuses. Then nothing has changed.
     pub fn turn(&mut self) -> Result<Turn, TargetFault>
+        // The whole of it: what is told and left, by what there is to handle. What is sent can be read, and fits the limit.
+        ensures turns { TurnsAt M.meaning (front_of self.old.end) self.old result self.new }
+        ensures encoded { IfOk result (λ _.
+            EncodesNext M.meaning (front_of self.old.end) self.old) }
+        ensures packets { IfOk result (λ _. SendsAt M.meaning (front_of self.old.end) self.old) }
+        ensures shrinks { IfOk result (λ turn. turn ≢ Turn.Nothing
+            → 11 + length self.new.end.incoming ≤ length self.old.end.incoming) }
+
+        // A reply has the id of the command in front. A command that is refused changes nothing of the debuggee's state. Nothing, and
+        // want of memory, leave all as it was.
+        ensures replies { (id : ℕ) (error : ErrorCode) → result ≡ Ok (Turn.Replied id error)
+            → HasReplied M.meaning id error self.old self.new }
+        ensures refused { (id : ℕ) (error : ErrorCode) → result ≡ Ok (Turn.Replied id error)
+            → error ≢ NONE → self.new.moment.state ≡ self.old.moment.state }
+        ensures unchanged { (result ≡ Ok Turn.Nothing) ⊎ (result ≡ Err TargetFault.NoMemory)
+            → self.new ≡ self.old }
+
+        // VirtualMachine: Suspend raises the suspend count of each live thread by one, and Resume lowers each that is above 0 by one.
+        ensures suspend { Answers M.meaning asked.Suspend self.old result
+            → EachCount (λ n. n + 1) self.old self.new }
+        ensures resume { Answers M.meaning asked.Resume self.old result
+            → EachCount (λ n. n - 1) self.old self.new }
+
+        // ThreadReference: Suspend and Resume do so to their thread alone.
+        ensures suspend_thread { (t : ℕ) → Answers M.meaning (asked.SuspendThread t) self.old result
+            → OneCount t (λ n. n + 1) self.old self.new }
+        ensures resume_thread { (t : ℕ) → Answers M.meaning (asked.ResumeThread t) self.old result
+            → OneCount t (λ n. n - 1) self.old self.new }
+
+        // EventRequest: Set adds one request, whose id the reply tells; Clear removes the one of its kind and id, and
+        // ClearAllBreakpoints those of the kind BREAKPOINT.
+        ensures set { (kind policy : ℕ) (modifiers : List (List ScalarMeaning))
+            → (set : Answers M.meaning (asked.SetRequest kind policy modifiers) self.old result)
+            → AddsRequest M.meaning set.header.id kind policy (modifiers_of modifiers) self.old
+            self.new }
+        ensures clear { (kind : ℕ) (id : ℤ)
+            → Answers M.meaning (asked.ClearRequest kind id) self.old result
+            → requests self.new ≡ without kind id (requests self.old) }
+        ensures clear_all_breakpoints { Answers M.meaning asked.ClearBreakpoints self.old result
+            → requests self.new ≡ without_breakpoints (requests self.old) }
+
+        // Dispose, and bytes that begin no message, end the session: each suspend count is 0, there are no requests, the end is closed.
+        ensures dispose { Answers M.meaning asked.Dispose self.old result
+            → IsOver self.old self.new }
+        ensures fault { (fault : FrameFault) → result ≡ Err (TargetFault.Frame fault)
+            → IsOver self.old self.new }
+    {
+        self.handle_next()
+    }
+
+    /// Handles the message in front, if one is whole and the end is neither closed nor paused.
+    ///
+    /// # Errors
+    /// As those of `turn`.
+    fn handle_next(&mut self) -> Result<Turn, TargetFault>
         ensures turns { TurnsAt M.meaning (front_of self.old.end) self.old result self.new }
         ensures encoded { IfOk result (λ _.
             EncodesNext M.meaning (front_of self.old.end) self.old) }

@@ -1,92 +1,14 @@
-use Rattle.std.proofs.Common.{◌≡◌, ◌∙◌, ◌+◌, ◌≤◌, ◌++◌, ap, sym, subst, rules, arith, length, false, List, [], ◌∷◌, ℕ, Option, None, Some, ◌<◌}
-use Rattle.std.proofs.lemmas.List.{length-append}
-use Rattle.jdwp_apart.specs.Following.{Following, put_to}
-use Rattle.jdwp_watch.specs.declared.put.Put.{Put}
-use Rattle.jdwp_watch.specs.Ledgers.{Account, put_of}
-use Rattle.jdwp_debugger.specs.FollowingKept.{IsCounted, following_of, ledger_put}
-use Rattle.jdwp_debugger.specs.News.{widths_by}
-use Rattle.jdwp_debugger.proofs.Followed.{asked-follows, put-counts, put-none}
-use Rattle.jdwp_end.specs.declared.phase.Phase.TheVariants.{AwaitingHandshake, Established}
-use Rattle.jdwp_end.specs.Ends.{End, with_enqueued}
-use Rattle.jdwp_debugger.specs.Asking.{IsNextFree, asked, command_bytes, id_after, is_outstanding, refusal_of_ask}
-use Rattle.jdwp_debugger.specs.Debuggers.{AreDistinct, AreOwn, Asked, Begins, Debugger}
-use Rattle.jdwp_debugger.specs.DebuggersKept.{view_of}
-use Rattle.jdwp_debugger.specs.DebuggerTurns.{reading_of}
-use Rattle.jdwp_debugger.specs.Runs.{HasRun}
-use Rattle.jdwp_debugger.proofs.DebuggerRuns.{ran-asked, with_command}
-use Rattle.jdwp_debugger.proofs.Admitting.{asked-established}
-use Rattle.jdwp_debugger.proofs.Keeping.{distinct-more, own-more}
+use Rattle.jdwp_debugger.proofs.ProtocolAsks.{asked-mirror, asked-packet, asked-refused, asked-waits}
 use Rattle.jdwp_debugger.proofs.debugger.Debugger.ask.Goals as goal
 
-pub invariant_of-self-2 : goal.invariant_of-self-2
-invariant_of-self-2 c =
-    let s = c.self.inside in
-    let kept = c.self.invariant in
-    let leaves = c.in_ok-packet.ensures.ok in
-    let id = c.next_free-id.result in
-    let ps = s.pending in
-    let p : Asked = record { id = id; ticket = Some (record { 0 = s.tickets + 1 }); command = c.args.command } in
-    let end : End = with_enqueued (command_bytes leaves.widths id c.args.command) s.end in
-    let asked : c.enqueue.new.self ≡ end = c.enqueue.ensures ∙ ap (λ (b : List ℕ). with_enqueued b s.end) (c.deref.ensures.value ∙ leaves.bytes_are) in
-    let known = ap (λ (d : Debugger). d.sizes) c.self.view_is ∙ leaves.known in
-    let pushed : c.push.new.self ≡ ps ++ p ∷ [] = search rules in
-    let less : length c.args.self.now.pending < c.args.self.now.end.limits.pending = leaves.few in
-    let room : length ps < s.end.limits.pending = subst (λ (d : Debugger). length d.pending < d.end.limits.pending) (sym c.self.view_is) less in
-    let few : length c.push.new.self ≤ s.end.limits.pending = omega (arith, room, ap (λ (qs : List Asked). length qs) pushed, length-append ps (p ∷ [])) in
-    let free : is_outstanding ps id ≡ false = c.next_free-id.ensures.free in
-    let phase : s.end.phase ≡ Established = asked-established (view_of s) c.args.command leaves.widths (subst (λ (d : Debugger). refusal_of_ask d c.args.command ≡ None) (sym c.self.view_is) leaves.unrefused) known kept.begins in
-    let noted : c.note_put.new.ledger ≡ ledger_put (put_of c.args.command) s.ledger = c.note_put.ensures ∙ ap (λ (k : Put). ledger_put k s.ledger) c.of-put.ensures in
-    let follows : following_of c.note_put.new.ledger s.sizes c.push.new.self ≡ put_to leaves.widths c.args.command (following_of s.ledger s.sizes ps) =
-    asked-follows s.ledger c.note_put.new.ledger s.sizes leaves.widths ps c.push.new.self p known pushed noted in
-    rw asked
-    (record {
-      limits = kept.limits;
-      few = few;
-      few_parked = kept.few_parked;
-      distinct = subst AreDistinct (sym pushed) (distinct-more ps p kept.distinct free);
-      own = subst AreOwn (sym pushed) (own-more ps p (λ none. absurd cc) kept.own);
-      begins = λ e. let none = kept.begins e in absurd cc;
-      alone = λ opened none. absurd cc;
-      unlearned = λ none. absurd cc;
-      unparked = kept.unparked;
-      unfollowed = λ one. noted ∙ put-none (put_of c.args.command) s.ledger (kept.unfollowed one);
-      counted = subst (λ (l : Option Account). IsCounted l (widths_by s.sizes) c.push.new.self) (sym noted)
-          (subst (λ (qs : List Asked). IsCounted (ledger_put (put_of c.args.command) s.ledger) (widths_by s.sizes) qs) (sym pushed) (put-counts (widths_by s.sizes) ps p s.ledger kept.counted));
-      at_first = λ opened none. absurd cc;
-      ran = subst (λ (qs : List Asked). HasRun s.order end (s.tickets + 1) (record { order = s.order; sizes = s.sizes; parked = s.parked.items; pending = qs }) s.mirror (following_of c.note_put.new.ledger s.sizes c.push.new.self)) (sym pushed)
-          (subst (λ (f : Option Following). HasRun s.order end (s.tickets + 1) (with_command id s.tickets c.args.command (reading_of (view_of s))) s.mirror f) (sym follows)
-          (ran-asked s.end s.tickets (reading_of (view_of s)) s.mirror (following_of s.ledger s.sizes ps) leaves.widths id c.args.command phase known free leaves.encoded kept.ran));
-    })
+pub returns-clause-packet : goal.returns-clause-packet
+returns-clause-packet c = asked-packet c.args.command c.args.self.now c.put_command.new.self c.put_command.result (c.put_command.ensures.ok, c.put_command.ensures.err)
 
-pub push-requires : goal.push-requires
-push-requires c = c.next_free-id.ensures.free
+pub returns-clause-waits : goal.returns-clause-waits
+returns-clause-waits c = asked-waits c.args.command c.args.self.now c.put_command.new.self c.put_command.result (c.put_command.ensures.ok, c.put_command.ensures.err)
 
-pub returns-clause-ok : goal.returns-clause-ok
-returns-clause-ok c =
-    let s = c.self.inside in
-    let leaves = c.in_ok-packet.ensures.ok in
-    let old = c.args.self.now in
-    let command = c.args.command in
-    let id = c.next_free-id.result in
-    let begins : old.end.phase ≡ AwaitingHandshake → Begins old = subst (λ (d : Debugger). d.end.phase ≡ AwaitingHandshake → Begins d) c.self.view_is c.self.invariant.begins in
-    let established = asked-established old command leaves.widths leaves.unrefused leaves.known begins in
-    let p : Asked = record { id = id; ticket = Some (record { 0 = s.tickets + 1 }); command = command } in
-    let end : c.enqueue.new.self ≡ with_enqueued (command_bytes leaves.widths id command) s.end = c.enqueue.ensures ∙ ap (λ (b : List ℕ). with_enqueued b s.end) (c.deref.ensures.value ∙ leaves.bytes_are) in
-    let pushed : c.push.new.self ≡ s.pending ++ p ∷ [] = search rules in
-    let noted : c.note_put.new.ledger ≡ ledger_put (put_of command) s.ledger = c.note_put.ensures ∙ ap (λ (k : Put). ledger_put k s.ledger) c.of-put.ensures in
-    let next : IsNextFree old.pending old.next_id id = subst (λ (d : Debugger). IsNextFree d.pending d.next_id id) c.self.view_is c.next_free-id.ensures in
-    let whole : record (view_of s) { end = c.enqueue.new.self; pending = c.push.new.self; next_id = id_after id 1; tickets = s.tickets + 1; ledger = c.note_put.new.ledger } ≡ asked leaves.widths id command (view_of s) =
-    (λ j. record (view_of s) { end = end j; pending = pushed j; next_id = id_after id 1; tickets = s.tickets + 1; ledger = noted j }) in (
-      leaves.unrefused,
-      ap (λ (d : Debugger). d.tickets + 1) c.self.view_is,
-      record {
-        established = established;
-        widths = leaves.widths;
-        known = leaves.known;
-        id = id;
-        next = next;
-        encoded = leaves.encoded;
-        sendable = leaves.sendable;
-        is = whole ∙ ap (λ (d : Debugger). asked leaves.widths id command d) c.self.view_is;
-      },
-    )
+pub returns-clause-mirror : goal.returns-clause-mirror
+returns-clause-mirror c = asked-mirror c.args.command c.args.self.now c.put_command.new.self c.put_command.result (c.put_command.ensures.ok, c.put_command.ensures.err)
+
+pub returns-clause-refused : goal.returns-clause-refused
+returns-clause-refused c = asked-refused c.args.command c.args.self.now c.put_command.new.self c.put_command.result (c.put_command.ensures.ok, c.put_command.ensures.err)

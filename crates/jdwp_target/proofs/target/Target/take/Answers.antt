@@ -1,5 +1,6 @@
-use Rattle.std.proofs.Common.{◌≤◌, arith, length, rules}
+use Rattle.std.proofs.Common.{◌≤◌, arith, drop, length, rules}
 use Rattle.jdwp_target.proofs.RightTargets.{right-taken}
+use Rattle.jdwp_target.proofs.TakenFirst.{taken-first}
 use Rattle.jdwp_target.proofs.target.Target.take.Goals as goal
 
 pub invariant_of-self : goal.invariant_of-self
@@ -9,3 +10,9 @@ invariant_of-self g c =
 
 pub returns-clause-count : goal.returns-clause-count
 returns-clause-count g c = search rules
+
+pub returns-clause-first : goal.returns-clause-first
+returns-clause-first g c =
+    let out = c.self.inside.end.outgoing in
+    let within : c.take.result ≤ length out = omega (arith, c.take.ensures.count) in
+    rw (← c.self.view_is, c.take.ensures.bytes, c.take.ensures.taken) (taken-first c.take.result out (drop c.take.result c.args.out.now) within)

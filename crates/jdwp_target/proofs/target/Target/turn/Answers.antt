@@ -1,61 +1,44 @@
-use Rattle.std.proofs.lemmas.Grind.{common_steps}
-use Rattle.std.proofs.Common.{◌≡◌, length, rules, refl, false, arith}
-use Rattle.jdwp_wire.specs.Streams.{Handshake, Whole}
+use Rattle.std.proofs.Common.{Result, inl, inr, subst}
 use Rattle.jdwp_end.specs.Ends.{front_of}
-use Rattle.jdwp_target.specs.Insides.{target_of}
-use Rattle.jdwp_target.proofs.AnswersEncoded.{encodes-start, encodes-whole}
-use Rattle.jdwp_target.proofs.RightTurns.{greeted, handled-view, hello-stays, right-handled, sends-whole, turns-whole}
-use Rattle.jdwp_target.proofs.Shrinking.{shrinks-if}
+use Rattle.jdwp_target.specs.declared.target.TargetFault.{TargetFault}
+use Rattle.jdwp_target.specs.declared.target.Turn.{Turn}
+use Rattle.jdwp_target.specs.Turns.{TurnsAt}
+use Rattle.jdwp_target.proofs.ProtocolTurns.{Turned, turned-clear, turned-clear-breakpoints, turned-dispose, turned-fault, turned-nothing, turned-refused, turned-replied, turned-resume, turned-resume-thread, turned-set, turned-suspend, turned-suspend-thread, turned-wanting}
 use Rattle.jdwp_target.proofs.target.Target.turn.Goals as goal
 
-pub invariant_of-self : goal.invariant_of-self
-invariant_of-self g c =
-    let t = c.self.inside in
-    let front : front_of t.end ≡ Whole Handshake 14 = search rules in
-    let h = greeted g.M.Machine.meaning t.debuggee _ t.end _ _ (c.take_off.ensures Handshake front) c.greet.ensures.debuggee c.greet.ensures.end c.self.invariant.limits c.greet.ensures.packets in
-    right-handled g.M.Machine.meaning t.debuggee _ t.deferral t.deferral t.began.items t.phases.items (length t.steps.items) t.end _ Handshake 14 c.self.invariant c.front.ensures.bytes front refl (hello-stays g.M.Machine.meaning t.debuggee t.deferral) h
+pub returns-clause-replies : goal.returns-clause-replies
+returns-clause-replies g c id error is = turned-replied g.M.Machine.meaning c.args.self.now c.handle_next.new.self id error (subst (λ (r : Result Turn TargetFault). Turned g.M.Machine.meaning c.args.self.now c.handle_next.new.self r) is (c.handle_next.ensures.turns, c.handle_next.ensures.encoded))
 
-pub returns-in-Handshake-clause-turns : goal.returns-in-Handshake-clause-turns
-returns-in-Handshake-clause-turns g c =
-    let t = c.self.inside in
-    let front : front_of t.end ≡ Whole Handshake 14 = search rules in
-    let h = greeted g.M.Machine.meaning t.debuggee _ t.end _ _ (c.take_off.ensures Handshake front) c.greet.ensures.debuggee c.greet.ensures.end c.self.invariant.limits c.greet.ensures.packets in
-    rw (← c.self.view_is)
-    (turns-whole g.M.Machine.meaning (target_of t.debuggee t.deferral t.began.items t.phases.items (length t.steps.items) t.end) _ Handshake 14 _ false front refl refl
-    (handled-view g.M.Machine.meaning t.debuggee _ t.deferral t.deferral t.began.items t.phases.items (length t.steps.items) t.end _ Handshake 14 c.self.invariant refl (hello-stays g.M.Machine.meaning t.debuggee t.deferral) h))
+pub returns-clause-refused : goal.returns-clause-refused
+returns-clause-refused g c id error is some = turned-refused g.M.Machine.meaning c.args.self.now c.handle_next.new.self id error (subst (λ (r : Result Turn TargetFault). Turned g.M.Machine.meaning c.args.self.now c.handle_next.new.self r) is (c.handle_next.ensures.turns, c.handle_next.ensures.encoded)) some
 
-pub returns-in-Handshake-clause-encoded : goal.returns-in-Handshake-clause-encoded
-returns-in-Handshake-clause-encoded g c =
-    let t = c.self.inside in
-    let front : front_of t.end ≡ Whole Handshake 14 = search rules in
-    let old = target_of t.debuggee t.deferral t.began.items t.phases.items (length t.steps.items) t.end in
-    rw (← c.self.view_is) (encodes-whole g.M.Machine.meaning old Handshake 14 front refl (encodes-start g.M.Machine.meaning old t.debuggee.moment.state.handshaken c.greet.ensures.encoded))
+pub returns-clause-unchanged : goal.returns-clause-unchanged
+returns-clause-unchanged g c (inl is) = turned-nothing g.M.Machine.meaning c.args.self.now c.handle_next.new.self (front_of c.args.self.now.end) (subst (λ (r : Result Turn TargetFault). TurnsAt g.M.Machine.meaning (front_of c.args.self.now.end) c.args.self.now r c.handle_next.new.self) is c.handle_next.ensures.turns)
+returns-clause-unchanged g c (inr is) = turned-wanting g.M.Machine.meaning c.args.self.now c.handle_next.new.self (front_of c.args.self.now.end) (subst (λ (r : Result Turn TargetFault). TurnsAt g.M.Machine.meaning (front_of c.args.self.now.end) c.args.self.now r c.handle_next.new.self) is c.handle_next.ensures.turns)
 
-pub returns-in-Handshake-clause-packets : goal.returns-in-Handshake-clause-packets
-returns-in-Handshake-clause-packets g c =
-    let t = c.self.inside in
-    let front : front_of t.end ≡ Whole Handshake 14 = search rules in
-    let h = greeted g.M.Machine.meaning t.debuggee _ t.end _ _ (c.take_off.ensures Handshake front) c.greet.ensures.debuggee c.greet.ensures.end c.self.invariant.limits c.greet.ensures.packets in
-    rw (← c.self.view_is) (sends-whole g.M.Machine.meaning (target_of t.debuggee t.deferral t.began.items t.phases.items (length t.steps.items) t.end) Handshake 14 front refl h.sends)
+pub returns-clause-suspend : goal.returns-clause-suspend
+returns-clause-suspend g c answers = turned-suspend g.M.Machine.meaning c.args.self.now c.handle_next.new.self c.handle_next.result (c.handle_next.ensures.turns, c.handle_next.ensures.encoded) answers
 
-pub greet-requires : goal.greet-requires
-greet-requires c = grind (arith, common_steps)
+pub returns-clause-resume : goal.returns-clause-resume
+returns-clause-resume g c answers = turned-resume g.M.Machine.meaning c.args.self.now c.handle_next.new.self c.handle_next.result (c.handle_next.ensures.turns, c.handle_next.ensures.encoded) answers
 
-pub returns-in-Fault-clause-turns : goal.returns-in-Fault-clause-turns
-returns-in-Fault-clause-turns g c = search rules
+pub returns-clause-suspend_thread : goal.returns-clause-suspend_thread
+returns-clause-suspend_thread g c t answers = turned-suspend-thread g.M.Machine.meaning c.args.self.now c.handle_next.new.self c.handle_next.result (c.handle_next.ensures.turns, c.handle_next.ensures.encoded) t answers
 
-pub take_packet-requires-clause-packet : goal.take_packet-requires-clause-packet
-take_packet-requires-clause-packet g c = rw (← c.self.view_is) c.in-Packet.ensures.front
+pub returns-clause-resume_thread : goal.returns-clause-resume_thread
+returns-clause-resume_thread g c t answers = turned-resume-thread g.M.Machine.meaning c.args.self.now c.handle_next.new.self c.handle_next.result (c.handle_next.ensures.turns, c.handle_next.ensures.encoded) t answers
 
-pub take_packet-requires-clause-bytes : goal.take_packet-requires-clause-bytes
-take_packet-requires-clause-bytes g c = rw (← c.self.view_is) c.front.ensures.bytes
+pub returns-clause-set : goal.returns-clause-set
+returns-clause-set g c kind policy modifiers answers = turned-set g.M.Machine.meaning c.args.self.now c.handle_next.new.self c.handle_next.result (c.handle_next.ensures.turns, c.handle_next.ensures.encoded) kind policy modifiers answers
 
-pub take_packet-requires-clause-least : goal.take_packet-requires-clause-least
-take_packet-requires-clause-least g c = rw (← c.self.view_is) c.front.ensures.least
+pub returns-clause-clear : goal.returns-clause-clear
+returns-clause-clear g c kind id answers = turned-clear g.M.Machine.meaning c.args.self.now c.handle_next.new.self c.handle_next.result (c.handle_next.ensures.turns, c.handle_next.ensures.encoded) kind id answers
 
-pub take_packet-requires-clause-most : goal.take_packet-requires-clause-most
-take_packet-requires-clause-most g c = rw (← c.self.view_is) c.front.ensures.most
+pub returns-clause-clear_all_breakpoints : goal.returns-clause-clear_all_breakpoints
+returns-clause-clear_all_breakpoints g c answers = turned-clear-breakpoints g.M.Machine.meaning c.args.self.now c.handle_next.new.self c.handle_next.result (c.handle_next.ensures.turns, c.handle_next.ensures.encoded) answers
 
-pub returns-in-Packet-clause-shrinks : goal.returns-in-Packet-clause-shrinks
-returns-in-Packet-clause-shrinks g c =
-    shrinks-if g.M.Machine.meaning c.args.self.now c.take_packet.new.self c.take_packet.result (rw (← c.self.view_is) c.front.ensures.bytes) c.take_packet.ensures.turns
+pub returns-clause-dispose : goal.returns-clause-dispose
+returns-clause-dispose g c answers = turned-dispose g.M.Machine.meaning c.args.self.now c.handle_next.new.self c.handle_next.result (c.handle_next.ensures.turns, c.handle_next.ensures.encoded) answers
+
+pub returns-clause-fault : goal.returns-clause-fault
+returns-clause-fault g c fault is = turned-fault g.M.Machine.meaning c.args.self.now c.handle_next.new.self (front_of c.args.self.now.end) fault (subst (λ (r : Result Turn TargetFault). TurnsAt g.M.Machine.meaning (front_of c.args.self.now.end) c.args.self.now r c.handle_next.new.self) is c.handle_next.ensures.turns)
