@@ -1,5 +1,6 @@
 pub mod Counting
 pub mod Ending
+pub mod LastFlush
 pub mod Moves
 pub mod Reached
 pub mod RefusedLines

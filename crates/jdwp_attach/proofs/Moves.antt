@@ -215,9 +215,10 @@ asked-moves command old new h =
 
 -- the line asks it
 pub asked-passes : (plan : List PlanLine) (steps : List Step) (line : PlanLine) (base old mid : Debugger) (text : List ℕ) (command : Command) (set number : ℕ) (bytes : List ℕ) → IsAsk line set number bytes
-    → is_open old.end ≡ true → HasAsked command old mid → old.tickets ≡ base.tickets + asks steps → Reaches plan base steps text old → Reaches plan base (steps ++ Line line ∷ []) (text ++ []) mid
-asked-passes plan steps line base old mid text command set number bytes asks-it opened asked tickets r =
-    reach-passed plan base steps text mid line [] (reach-asked plan base steps text old mid command r opened asked)
+    → is_open old.end ≡ true → refusal_of_ask old command ≡ None → HasAsked command old mid → old.tickets ≡ base.tickets + asks steps → Reaches plan base steps text old
+    → Reaches plan base (steps ++ Line line ∷ []) (text ++ []) mid
+asked-passes plan steps line base old mid text command set number bytes asks-it opened unrefused asked tickets r =
+    reach-passed plan base steps text mid line [] (reach-asked plan base steps text old mid command r opened unrefused asked)
     (omega (arith, tickets, (asked-moves command old mid asked).tickets_are, asks-append steps (Line line), one-asked line set number bytes asks-it)) (ask-there line set number bytes mid asks-it)
     (ask-tells line set number bytes mid asks-it)
 

@@ -10,7 +10,7 @@ use Rattle.jdwp_debugger.specs.declared.order.Order.{Order}
 use Rattle.jdwp_debugger.specs.declared.order.Order.TheVariants as order
 use Rattle.jdwp_debugger.specs.declared.turning.Read.{Read}
 use Rattle.jdwp_debugger.specs.declared.turning.Read.TheVariants as read
-use Rattle.jdwp_debugger.specs.Asking.{HasAsked}
+use Rattle.jdwp_debugger.specs.Asking.{HasAsked, refusal_of_ask}
 use Rattle.jdwp_debugger.specs.Debuggers.{Debugger, with_fed, with_taken}
 use Rattle.jdwp_debugger.specs.DebuggerTurns.{Told, TurnsAt, read_meaning}
 use Rattle.jdwp_plan.specs.declared.plan_line.PlanLine.{PlanLine}
@@ -94,9 +94,9 @@ pub reach-same : (plan done : List PlanLine) (base : Debugger) (steps : List Ste
 reach-same plan done base steps text old new are r awaits turned same =
     subst (λ (x : Debugger). Reaches plan base steps text x) same (reach-untold plan done base steps text old new (Ok read.Nothing) refl (nothing-due new) are r awaits turned)
 
-pub reach-asked : (plan : List PlanLine) (base : Debugger) (steps : List Step) (text : List ℕ) (old new : Debugger) (command : Command) → Reaches plan base steps text old → is_open old.end ≡ true → HasAsked command old new
-    → Reaches plan base steps text new
-reach-asked plan base steps text old new command r opened asked = Asks steps text old new command r opened asked
+pub reach-asked : (plan : List PlanLine) (base : Debugger) (steps : List Step) (text : List ℕ) (old new : Debugger) (command : Command) → Reaches plan base steps text old → is_open old.end ≡ true
+    → refusal_of_ask old command ≡ None → HasAsked command old new → Reaches plan base steps text new
+reach-asked plan base steps text old new command r opened unrefused asked = Asks steps text old new command r opened unrefused asked
 
 -- behind a turn that handled nothing
 pub reach-fed : (plan done : List PlanLine) (base : Debugger) (steps : List Step) (text : List ℕ) (old mid new : Debugger) (bytes : List ℕ) → AreSteps base.order done steps → Reaches plan base steps text old
@@ -140,7 +140,7 @@ pub reach-order : (plan : List PlanLine) (base : Debugger) (steps : List Step) (
 reach-order plan base steps text d Begins = refl
 reach-order plan base steps text d (Turns before own told old mid new result r awaits turned asks-it) =
     due-order (due_behind result mid) mid new own asks-it ∙ turned-order old mid result turned ∙ reach-order plan base before told old r
-reach-order plan base steps text d (Asks before told old new command r opened asked) = ap (λ (x : Debugger). x.order) asked.is ∙ reach-order plan base before told old r
+reach-order plan base steps text d (Asks before told old new command r opened unrefused asked) = ap (λ (x : Debugger). x.order) asked.is ∙ reach-order plan base before told old r
 reach-order plan base steps text d (Feeds before told old new bytes r awaits turned fits) = turned-order old new (Ok read.Nothing) turned ∙ reach-order plan base before told old r
 reach-order plan base steps text d (Takes before told old bytes r front) = reach-order plan base before told old r
 reach-order plan base steps text d (Passes before told old line more r tickets there tells) = reach-order plan base before told old r

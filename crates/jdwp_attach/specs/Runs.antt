@@ -1,12 +1,12 @@
 -- What an engine that runs a debugger did on its pipes.
-use Rattle.std.specs.Prelude.{◌≡◌, ◌≢◌, ◌⊎◌, ℕ, ◌≤◌, ◌+◌, ◌&&◌, Bool, true, false, List, [], ◌∷◌, ◌++◌, length, Result, Ok}
+use Rattle.std.specs.Prelude.{◌≡◌, ◌≢◌, ◌⊎◌, ℕ, ◌≤◌, ◌+◌, ◌&&◌, Bool, true, false, List, [], ◌∷◌, ◌++◌, length, None, Result, Ok}
 use Rattle.jdwp_end.specs.Ends.{front_of, is_open, room_of}
 use Rattle.jdwp_end.specs.Runs.{IsFront}
 use Rattle.jdwp_action.specs.Actions.{Command}
 use Rattle.jdwp_debugger.specs.declared.faults.DebuggerFault.{DebuggerFault}
 use Rattle.jdwp_debugger.specs.declared.turning.Read.{Read}
 use Rattle.jdwp_debugger.specs.declared.turning.Read.TheVariants as read
-use Rattle.jdwp_debugger.specs.Asking.{HasAsked}
+use Rattle.jdwp_debugger.specs.Asking.{HasAsked, refusal_of_ask}
 use Rattle.jdwp_debugger.specs.Debuggers.{Debugger, lost_debugger, with_fed, with_taken}
 use Rattle.jdwp_debugger.specs.DebuggerTurns.{TurnsAt}
 use Rattle.jdwp_pipe.specs.declared.ended.Ended.{Ended}
@@ -39,13 +39,14 @@ TellsLine other d text = text ≡ []
 
 -- The debuggers that calls lead to from one, along steps of a run of a plan, and what is told on the way. Turns are made where the plan awaits
 -- something, whatever they answer, and behind each the count that is due then is asked, and no other; commands asked, where the session is
--- open; bytes fed behind a turn that handled nothing, for which there is room; and bytes taken, of those that wait to leave. A line is passed
--- at a debugger that had asked what the steps up to it ask, and at which what it waits for was there.
+-- open and the debugger refuses them not; bytes fed behind a turn that handled nothing, for which there is room; and bytes taken, of those
+-- that wait to leave. A line is passed at a debugger that had asked what the steps up to it ask, and at which what it waits for was there.
 pub data Reaches (plan : List PlanLine) (base : Debugger) : List Step → List ℕ → Debugger → Type 0 where
   Begins : Reaches plan base [] [] base
   Turns : (steps own : List Step) (text : List ℕ) (old mid new : Debugger) (result : Result Read DebuggerFault) → Reaches plan base steps text old → Awaits plan (planned steps) old
       → TurnsAt (front_of old.end) old result mid → AsksDue (due_behind result mid) mid new own → Reaches plan base (steps ++ own) (text ++ lines_of result mid) new
-  Asks : (steps : List Step) (text : List ℕ) (old new : Debugger) (command : Command) → Reaches plan base steps text old → is_open old.end ≡ true → HasAsked command old new → Reaches plan base steps text new
+  Asks : (steps : List Step) (text : List ℕ) (old new : Debugger) (command : Command) → Reaches plan base steps text old → is_open old.end ≡ true
+      → refusal_of_ask old command ≡ None → HasAsked command old new → Reaches plan base steps text new
   Feeds : (steps : List Step) (text : List ℕ) (old new : Debugger) (bytes : List ℕ) → Reaches plan base steps text old → Awaits plan (planned steps) old → TurnsAt (front_of old.end) old (Ok read.Nothing) new
       → length bytes ≤ room_of new.end → Reaches plan base steps text (with_fed bytes new)
   Takes : (steps : List Step) (text : List ℕ) (old : Debugger) (bytes : List ℕ) → Reaches plan base steps text old → IsFront bytes old.end.outgoing → Reaches plan base steps text (with_taken bytes old)

@@ -35,9 +35,9 @@ returns-then-not-write_out-clause-ends g c = λ out line asks-it done rest base 
     let asked = c.in_default-ask.ensures.ok.2 in
     let fails = c.if-not-write_out.ensures.fails refl in
     let in-order = asked-in-order done rest line base s out old mid c.args.run.now.left c.args.set c.args.number c.args.bytes.now c.in-Some.sizes c.in-Ok.command asks-it
-    (sym c.sizes.ensures ∙ c.in-Some.is) c.in-Ok.ensures.ok asked k in
+    (sym c.sizes.ensures ∙ c.in-Some.is) c.in-Ok.ensures.ok c.in_default-ask.ensures.ok.0 asked k in
     loses-ends (done ++ line ∷ rest) done base s out old mid c.args.run.now.left c.args.run.now.left c.args.run.now.left 0 1 s' out c.lose.new.self [] k.told (begins-line done rest line) k
-    (asked-moves c.in-Ok.command old mid asked) (k.steps, k.are, reach-asked (done ++ line ∷ rest) base.debugger k.steps k.told old mid c.in-Ok.command k.reached k.ready.0 asked) (sym (append-nil k.told)) in-order
+    (asked-moves c.in-Ok.command old mid asked) (k.steps, k.are, reach-asked (done ++ line ∷ rest) base.debugger k.steps k.told old mid c.in-Ok.command k.reached k.ready.0 c.in_default-ask.ensures.ok.0 asked) (sym (append-nil k.told)) in-order
     (record {
       taken = fails.0;
       is = c.lose.ensures.lost ∙ ap (λ (x : Debugger). lost_debugger x) fails.1;
@@ -57,7 +57,7 @@ returns-clause-goes g c = λ out line asks-it done rest base k.
     (sym c.sizes.ensures ∙ c.in-Some.is) c.in-Ok.ensures.ok asked k.stands in
     moved-goes (done ++ line ∷ rest) done (done ++ line ∷ []) base s out old mid c.args.run.now.left c.args.run.now.left 0 1 (g.P.Pipe.story c.write_out.new.pipe) out c.write_out.new.end [] (k.told ++ []) k (k.steps ++ Line line ∷ [])
     (asked-moves c.in-Ok.command old mid asked) (are-line base.debugger.order done k.steps line k.are)
-    (asked-passes (done ++ line ∷ rest) k.steps line base.debugger old mid k.told c.in-Ok.command c.args.set c.args.number c.args.bytes.now asks-it k.ready.0 asked k.asked k.reached) refl stands
+    (asked-passes (done ++ line ∷ rest) k.steps line base.debugger old mid k.told c.in-Ok.command c.args.set c.args.number c.args.bytes.now asks-it k.ready.0 c.in_default-ask.ensures.ok.0 asked k.asked k.reached) refl stands
     (asked-open c.in-Ok.command old mid asked c.requires.ready.0) (omega (arith, asks-append k.steps (Line line), one)) (omega arith) w.0 w.1 (sym (written-none out))
 
 pub returns-clause-ready : goal.returns-clause-ready

@@ -1,5 +1,5 @@
 use Rattle.std.proofs.Common.{true, false, refl}
-use Rattle.jdwp_attach.proofs.Ending.{by-flush}
+use Rattle.jdwp_attach.proofs.LastFlush.{by-flush}
 use Rattle.jdwp_attach.proofs.attaching.flush_both.Goals as goal
 
 pub returns-then-left-clause-fails : goal.returns-then-left-clause-fails

@@ -1,5 +1,5 @@
 use Rattle.std.proofs.Common.{◌∙◌, sym}
-use Rattle.jdwp_attach.proofs.Ending.{flush-fails-kept, flush-fails-lost, flush-fails-refused, last-flush}
+use Rattle.jdwp_attach.proofs.LastFlush.{flush-fails-kept, flush-fails-lost, flush-fails-refused, last-flush}
 use Rattle.jdwp_attach.proofs.attaching.lose_what_is_kept.Goals as goal
 
 pub returns-in-Refused-clause-ends : goal.returns-in-Refused-clause-ends

@@ -1,0 +1,6 @@
+mod Moving
+mod Serving
+mod Turning
+mod Attaching
+mod Nobody
+mod Together

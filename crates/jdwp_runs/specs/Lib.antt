@@ -1,0 +1,4 @@
+pub mod Acting
+pub mod Running
+pub mod Standing
+pub mod Headline
