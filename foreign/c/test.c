@@ -32,6 +32,7 @@ static void test_empty(mv_handle h) {
     mv_handled handled = {0};
     mv_id_widths widths = {0};
     mv_asked asked = {0};
+    mv_request kept = {9, 9, 9};
     assert(mv_debugger_attach(&h, &yes) == MV_EMPTY && !yes);
     assert(mv_debugger_feed(&h, bytes, 8, &a) == MV_EMPTY && a == 0);
     a = 9;
@@ -43,6 +44,7 @@ static void test_empty(mv_handle h) {
     assert(mv_debugger_widths(&h, &yes, &widths) == MV_EMPTY);
     assert(mv_debugger_thread(&h, 1, &yes, &count, &also) == MV_EMPTY);
     assert(mv_debugger_unanswered(&h, 0, &asked) == MV_EMPTY);
+    assert(mv_debugger_request(&h, 0, &kept) == MV_EMPTY && kept.id == 9);
     assert(mv_debugger_lose(&h, tickets, MV_MOST_TICKETS, &a) == MV_EMPTY && a == 0);
     assert(mv_target_accept(&h, &yes) == MV_EMPTY);
     assert(mv_target_feed(&h, bytes, 8, &a) == MV_EMPTY);
@@ -98,6 +100,50 @@ static void test_packets(void) {
     assert(mv_next_packet(reply, sizeof reply, &out) == MV_DONE && out.kind == MV_FRONT_REPLY && out.error == 20 && out.length == 11);
     assert(mv_next_packet(reply, 10, &out) == MV_DONE && out.kind == MV_FRONT_MORE && out.length == 0);
     assert(mv_next_packet(flags, 9, &out) == MV_DONE && out.kind == MV_FRONT_FAULT && out.fault == 3);
+}
+
+/* What a call for a text answers: `which` 0 a command's name, 1 an error code's, 2 a fault in words. */
+static uint32_t text_of(int which, uint8_t set, uint16_t number, uint8_t *out, size_t room, size_t *needed) {
+    if (which == 0) return mv_command_name(set, (uint8_t)number, out, room, needed);
+    if (which == 1) return mv_error_name(number, out, room, needed);
+    return mv_fault_text(number, out, room, needed);
+}
+
+static void expect_text(int which, uint8_t set, uint16_t number, const char *text) {
+    uint8_t out[128];
+    size_t needed = 0, length = strlen(text);
+    memset(out, 7, sizeof out);
+    assert(text_of(which, set, number, out, length - 1, &needed) == MV_SHORT_BUFFER);
+    assert(needed == length && out[0] == 7);
+    assert(text_of(which, set, number, out, length, &needed) == MV_DONE);
+    assert(needed == length && memcmp(out, text, length) == 0 && out[length] == 7);
+}
+
+/* Names of the specification's pages, and texts of the faults above the header's declarations. */
+static void test_texts(void) {
+    uint8_t out[8] = {7};
+    size_t needed = 9;
+    expect_text(0, 1, 8, "VirtualMachine.Suspend");
+    expect_text(0, 1, 22, "VirtualMachine.AllModules");
+    expect_text(0, 18, 2, "ModuleReference.ClassLoader");
+    expect_text(0, 64, 100, "Event.Composite");
+    expect_text(1, 0, 0, "NONE");
+    expect_text(1, 0, 10, "INVALID_THREAD");
+    expect_text(1, 0, 72, "CLASS_ATTRIBUTE_CHANGE_NOT_IMPLEMENTED");
+    expect_text(1, 0, 99, "NOT_IMPLEMENTED");
+    expect_text(1, 0, 115, "UNATTACHED_THREAD");
+    expect_text(1, 0, 512, "INVALID_COUNT");
+    expect_text(2, 0, 1, "a packet length below 11");
+    expect_text(2, 0, 26, "a limit is passed");
+    expect_text(2, 0, 53, "the id of a command that waits for its reply");
+    /* sets have gaps, and so have codes and faults */
+    assert(mv_command_name(1, 0, out, 8, &needed) == MV_NO_ITEM && needed == 0 && out[0] == 7);
+    assert(mv_command_name(7, 1, out, 8, &needed) == MV_NO_ITEM);
+    assert(mv_command_name(255, 255, out, 8, &needed) == MV_NO_ITEM);
+    assert(mv_error_name(16, out, 8, &needed) == MV_NO_ITEM);
+    assert(mv_error_name(65535, out, 8, &needed) == MV_NO_ITEM);
+    assert(mv_fault_text(0, out, 8, &needed) == MV_NO_ITEM);
+    assert(mv_fault_text(52, out, 8, &needed) == MV_NO_ITEM && out[0] == 7);
 }
 
 static void test_captures(void) {
@@ -201,6 +247,7 @@ static void test_session(void) {
     bool yes = false, held = false;
     mv_heard heard = {0};
     mv_asked asked = {0};
+    mv_request kept = {9, 9, 9};
     assert(mv_debugger_new(&d, 1) == MV_DONE);
     make_target(&t);
     begin(&d, &t);
@@ -220,10 +267,14 @@ static void test_session(void) {
     assert(ask(&d, 15, 1, set, sizeof set) == 1);
     assert(mv_debugger_unanswered(&d, 0, &asked) == MV_DONE && asked.ticket == 1 && asked.set == 15 && asked.number == 1);
     assert(mv_debugger_unanswered(&d, 1, &asked) == MV_DONE && asked.ticket == 0);
+    assert(mv_debugger_request(&d, 0, &kept) == MV_NO_ITEM && kept.id == 9);
+    assert(mv_debugger_request(&t, 0, &kept) == MV_OTHER_KIND && kept.kind == 9);
     heard = hear(&d, &t);
     assert(heard.kind == MV_HEARD_ANSWERED && heard.ticket == 1 && heard.error == 0 && heard.items == 1);
     const uint8_t request[] = {0, 0, 0, 1};
     expect_data(&d, 0, request, sizeof request);
+    assert(mv_debugger_request(&d, 0, &kept) == MV_DONE && kept.id == 1 && kept.kind == 2 && kept.policy == 2);
+    assert(mv_debugger_request(&d, 1, &kept) == MV_NO_ITEM);
     assert(ask(&d, 1, 9, set, 0) == 2); /* VirtualMachine.Resume */
     heard = hear(&d, &t);
     assert(heard.kind == MV_HEARD_ANSWERED && heard.ticket == 2 && heard.items == 1);
@@ -277,10 +328,12 @@ static void test_apart(void) {
     /* VM_START of thread 1, which suspends all, names that thread alone */
     assert(mv_debugger_thread(&d, 1, &known, &count, &held) == MV_DONE && known && count == 1 && held);
     assert(mv_debugger_thread(&d, 2, &known, &count, &held) == MV_DONE && !known && count == 0 && !held);
-    /* VirtualMachine.Resume: nothing is sure from the asking on */
+    /* VirtualMachine.Resume: nothing is sure from the asking on; thread 1 was named, thread 2 was not */
     ask(&d, 1, 9, (const uint8_t *)"", 0);
-    assert(mv_debugger_thread(&d, 1, &known, &count, &held) == MV_DONE && !known && count == 0 && !held);
+    assert(mv_debugger_thread(&d, 1, &known, &count, &held) == MV_DONE && known && count == 0 && !held);
+    assert(mv_debugger_thread(&d, 2, &known, &count, &held) == MV_DONE && !known && count == 0 && !held);
     assert(hear(&d, &t).ticket == 1);
+    assert(mv_debugger_thread(&d, 1, &known, &count, &held) == MV_DONE && known && count == 0 && !held);
     /* ThreadReference.Suspend of thread 1, twice: sure once answered */
     const uint8_t thread[] = {0, 0, 0, 0, 0, 0, 0, 1};
     ask(&d, 11, 2, thread, sizeof thread);
@@ -291,6 +344,12 @@ static void test_apart(void) {
     assert(hear(&d, &t).ticket == 3);
     assert(mv_debugger_thread(&d, 1, &known, &count, &held) == MV_DONE && known && count == 2 && held);
     assert(mv_target_thread(&t, 1, &known, &count) == MV_DONE && known && count == 2);
+    /* ThreadReference.SuspendCount of thread 2: an answer about it names it */
+    const uint8_t second[] = {0, 0, 0, 0, 0, 0, 0, 2};
+    ask(&d, 11, 12, second, sizeof second);
+    assert(mv_debugger_thread(&d, 2, &known, &count, &held) == MV_DONE && !known);
+    assert(hear(&d, &t).ticket == 4);
+    assert(mv_debugger_thread(&d, 2, &known, &count, &held) == MV_DONE && known && count == 0 && !held);
     /* and nobody from the asking of Dispose on */
     ask(&d, 1, 6, (const uint8_t *)"", 0);
     assert(mv_debugger_thread(&d, 1, &known, &count, &held) == MV_DONE && !known && count == 0 && !held);
@@ -325,6 +384,7 @@ int main(void) {
     test_empty(none);
     test_kinds();
     test_packets();
+    test_texts();
     test_captures();
     test_scripts();
     test_session();

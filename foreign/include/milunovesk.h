@@ -97,6 +97,18 @@ typedef struct {
 /* Tells which packet stands in front of the bytes, behind the handshakes. What follows it is not looked at. Always MV_DONE. */
 uint32_t mv_next_packet(const uint8_t *bytes, size_t length, mv_framed *out);
 
+/* ---- names and texts, which are not ended by a zero: `needed` is how many bytes they have */
+
+/* Moves the name of the command of this set and number, as mv_show prints it ("VirtualMachine.Suspend"), to the front of `out`, `needed` bytes.
+ * MV_SHORT_BUFFER where `room` is below `needed`, which is told then, too; MV_NO_ITEM where there is no such command. */
+uint32_t mv_command_name(uint8_t set, uint8_t number, uint8_t *out, size_t room, size_t *needed);
+
+/* The same of the name of an error code, as the specification's "Error Constants" have it ("INVALID_THREAD"); MV_NO_ITEM where they have none. */
+uint32_t mv_error_name(uint16_t error, uint8_t *out, size_t room, size_t *needed);
+
+/* The same of what the fault of this number is, in words, of those above; MV_NO_ITEM where there is no such fault. */
+uint32_t mv_fault_text(uint16_t fault, uint8_t *out, size_t room, size_t *needed);
+
 /* ---- captures: texts of lines "> HEX", bytes that the debugger sent, and "< HEX", bytes that the target sent (docs/CAPTURES.md) */
 
 typedef struct {
@@ -193,10 +205,12 @@ typedef struct {
 uint32_t mv_debugger_widths(mv_handle *handle, bool *known, mv_id_widths *out);
 
 /* Tells whether a thread is known, its suspend count, and whether the debugger holds it: what the packets read so far say. With a target of
- * this library at the other end a thread that is held is suspended (docs/SUSPENSION.md). Of a debugger made by mv_debugger_new_apart, `held` is
- * whether the thread is surely suspended now, and `known` the same; `count` is what its suspend count is surely no less than, 0 where nothing is
- * sure, 4,294,967,295 where it is more: less behind each Resume from the asking on, and 0 from the asking of Dispose, Exit or a command on that a
- * target of this library does not carry out, invocations apart. Nothing is written at another answer than MV_DONE. */
+ * this library at the other end a thread that is held is suspended (docs/SUSPENSION.md). Of a debugger made by mv_debugger_new_apart, `known` is
+ * whether the thread was named: a composite of its own was read in the session, or an answer without an error about it; `held` is whether it is
+ * surely suspended now; and `count` is what its suspend count is surely no less than, 0 where nothing is sure, 4,294,967,295 where it is more:
+ * less behind each Resume from the asking on. So of a thread that is known and not held nothing is sure. From the asking of Dispose, Exit or a
+ * command on that a target of this library does not carry out, invocations apart, no thread is known. Nothing is written at another answer than
+ * MV_DONE. */
 uint32_t mv_debugger_thread(mv_handle *handle, uint64_t thread, bool *known, uint32_t *count, bool *held);
 
 /* A command that was asked and is neither answered nor lost. */
@@ -208,6 +222,17 @@ typedef struct {
 
 /* Tells the one at a place, from 0, in the order asked. Nothing is written at another answer than MV_DONE. */
 uint32_t mv_debugger_unanswered(mv_handle *handle, size_t place, mv_asked *out);
+
+/* An event request, as the debugger keeps it. */
+typedef struct {
+    int32_t id;     /* in the target's reply */
+    uint8_t kind;   /* of the events, as it was asked */
+    uint8_t policy; /* which threads they suspend, as it was asked */
+} mv_request;
+
+/* Tells the one at a place, from 0, among the event requests that the target has by all that was read in the session, the last one asked last.
+ * MV_NO_ITEM behind the last. Nothing is written at another answer than MV_DONE. */
+uint32_t mv_debugger_request(mv_handle *handle, size_t place, mv_request *out);
 
 /* The connection is lost, or given up: the session is closed, nothing waits, nothing is known. Moves the tickets that will never be answered
  * to the front of `tickets`, and tells how many. MV_SHORT_BUFFER, with `count` 1,024 and nothing changed, where `room` is below

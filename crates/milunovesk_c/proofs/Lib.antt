@@ -1,2 +1,4 @@
 pub mod HandleValues
+pub mod Joined
 pub mod LooseValues
+pub mod Requests

@@ -3,6 +3,7 @@ pub mod Captures
 pub mod Framing
 pub mod Handles
 pub mod KeptIn
+pub mod Names
 pub mod Numbers
 pub mod Seats
 pub mod Targets

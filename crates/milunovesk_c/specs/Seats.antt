@@ -7,16 +7,18 @@ use Rattle.jdwp_debugger.specs.declared.asking.Refused.TheVariants as refused
 use Rattle.jdwp_debugger.specs.declared.pending.Ticket.{Ticket}
 use Rattle.jdwp_debugger.specs.declared.turning.Read.TheVariants as read
 use Rattle.jdwp_debugger.specs.Debuggers.{Debugger, PENDING_MOST, Unanswered, attached, lost_debugger, new_debugger_in, tickets_of}
-use Rattle.jdwp_debugger.specs.Holding.{at_least}
+use Rattle.jdwp_debugger.specs.Holding.{at_least, is_named}
 use Rattle.jdwp_debugger.specs.declared.order.Order.{Order}
 use Rattle.jdwp_debugger.specs.declared.order.Order.TheVariants.{One, Apart}
 use Rattle.jdwp_mirror.specs.KnownThreads.{count_in}
+use Rattle.jdwp_mirror.specs.Mirror.{Kept}
 use Rattle.jdwp_debugger.specs.RefusedNumbers.{refused_number}
 use Rattle.milunovesk_c.specs.declared.seat.Seat.{Seat}
 use Rattle.milunovesk_c.specs.declared.widths.Asked.{Asked}
 use Rattle.milunovesk_c.specs.declared.widths.IdWidths.{IdWidths}
+use Rattle.milunovesk_c.specs.declared.widths.Request.{Request}
 use Rattle.milunovesk_c.specs.Askings.{AsksBytes, RefusesBytes}
-use Rattle.milunovesk_c.specs.Numbers.{DONE, NO_MEMORY, REFUSED, SHORT_BUFFER}
+use Rattle.milunovesk_c.specs.Numbers.{DONE, NO_ITEM, NO_MEMORY, REFUSED, SHORT_BUFFER}
 
 -- before its first session, of a target of this order, with this id of its first packet
 abbrev pub new_seat_in : Order → ℕ → Seat
@@ -28,10 +30,10 @@ new_seat first = new_seat_in One first
 
 -- ---- threads
 
--- whether a thread is known: by the order in which the target sends, the mirror has its count, or it is surely suspended
+-- whether a thread is known: by the order in which the target sends, the mirror has its count, or it was named
 abbrev pub known_in : Order → Debugger → ℕ → Bool
 known_in One d t = is_some (count_in d.mirror.threads t)
-known_in Apart d t = nat_lt 0 (at_least d t)
+known_in Apart d t = is_named d t
 
 abbrev pub is_known : Debugger → ℕ → Bool
 is_known d t = known_in d.order d t
@@ -60,6 +62,14 @@ widths_told (Some w) = record { field = w.field; method = w.method; object = w.o
 abbrev pub unanswered_told : Option Unanswered → Asked
 unanswered_told None = record { ticket = 0; set = 0; number = 0 }
 unanswered_told (Some u) = record { ticket = u.ticket; set = u.command.set; number = u.command.number }
+
+abbrev pub request_told : Kept → Request
+request_told k = record { id = k.id; kind = k.kind; policy = k.policy }
+
+-- what stands at a place is told, if something does
+abbrev pub TellsRequest : Option Kept → ℕ → Request → Request → Type 0
+TellsRequest None result old new = (result ≡ NO_ITEM) × (new ≡ old)
+TellsRequest (Some k) result old new = (result ≡ DONE) × (new ≡ request_told k)
 
 abbrev pub numbers_of : List Ticket → List ℕ
 numbers_of tickets = map (λ (t : Ticket). t.0) tickets

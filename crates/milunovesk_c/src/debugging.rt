@@ -1,5 +1,5 @@
 //! Calls on a debugger.
-ghost use Rattle.std.specs.Prelude.{◌≡◌, ◌++◌, ◌↔◌, ◌==◌, ◌+◌, ◌<◌, ◌≤◌, IfOk, IsTrue, IsFalse, None, Some, drop, false, is_some, length, map, min, take, true, unwrap_or};
+ghost use Rattle.std.specs.Prelude.{◌≡◌, ◌++◌, ◌↔◌, ◌==◌, ◌+◌, ◌<◌, ◌≤◌, IfOk, IsTrue, IsFalse, None, Some, drop, false, is_some, length, map, min, slice_get, take, true, unwrap_or};
 ghost use Rattle.jdwp_debugger.specs.Debuggers.{at_place, attached, has_tickets, lost_debugger, new_debugger, tickets_of, unanswered, with_fed, with_taken};
 ghost use Rattle.jdwp_debugger.specs.RefusedNumbers.{refused_number};
 ghost use Rattle.jdwp_debugger.specs.declared.turning.Read.TheVariants as read;
@@ -8,7 +8,7 @@ ghost use Rattle.jdwp_debugger.specs.Holding.{is_held};
 ghost use Rattle.jdwp_debugger.specs.declared.order.Order.TheVariants.{Apart};
 ghost use Rattle.jdwp_wire.specs.Limits.{standard_limits};
 ghost use Rattle.milunovesk_c.specs.KeptIn.{AtDebugger, IsMade, KeepsDebugger, KeepsNoDebugger, seated};
-ghost use Rattle.milunovesk_c.specs.Seats.{HasAskedBytes, HasLost, attached_where, count_told, is_known, new_seat, new_seat_in, numbers_of, unanswered_told, widths_told};
+ghost use Rattle.milunovesk_c.specs.Seats.{HasAskedBytes, HasLost, TellsRequest, attached_where, count_told, is_known, new_seat, new_seat_in, numbers_of, unanswered_told, widths_told};
 ghost use Rattle.milunovesk_c.specs.Numbers.{DONE, NO_MEMORY, REFUSED, SHORT_BUFFER};
 ghost use Rattle.milunovesk_c.specs.Telling.{HasTurned, IsGiven, told_bytes};
 ghost use Rattle.milunovesk_c.specs.declared.kept.Kept.TheVariants as kept;
@@ -18,7 +18,7 @@ use crate::handle::Handle;
 use crate::heard::Heard;
 use crate::kept::Kept;
 use crate::seat::Seat;
-use crate::widths::{Asked, IdWidths};
+use crate::widths::{Asked, IdWidths, Request};
 use crate::{DONE, EMPTY, FAULT, LIVE, NO_ITEM, NO_MEMORY, OTHER_KIND, REFUSED, SHORT_BUFFER};
 use jdwp_debugger::{Debugger, DebuggerFault, Order, Refused, Ticket};
 use jdwp_value::ObjectId;
@@ -358,9 +358,10 @@ pub extern "C" fn mv_debugger_widths(
     }
 }
 
-/// Says whether a thread is known, its suspend count, and whether it is held for suspended; of a target that sends replies and composites by
-/// threads of their own whether it is surely suspended, in `known` and `held`, and in `count` what its suspend count is surely no less than,
-/// 4,294,967,295 where that is more.
+/// Says whether a thread is known, its suspend count, and whether it is held for suspended. Of a target that sends replies and composites by
+/// threads of their own: whether the thread was named, that is a composite of its own was read, or an answer without an error about it; in
+/// `count` what its suspend count is surely no less than, 4,294,967,295 where that is more; and in `held` whether it is surely suspended. So of a
+/// thread that is known and not held nothing is sure.
 #[unsafe(no_mangle)]
 pub extern "C" fn mv_debugger_thread(
     alloc: Global,
@@ -400,7 +401,7 @@ fn knows(debugger: &Debugger, thread: ObjectId) -> bool
 {
     match debugger.order() {
         Order::One => debugger.mirror().count(thread).is_some(),
-        Order::Apart => debugger.at_least(thread) > 0,
+        Order::Apart => debugger.is_named(thread),
     }
 }
 
@@ -438,6 +439,46 @@ pub extern "C" fn mv_debugger_unanswered(
             };
             handle.put(kept);
             code
+        }
+    }
+}
+
+/// Says the id, the kind and the suspend policy of the event request at this place among those that the debugger keeps, the last one asked last.
+/// `NO_ITEM` behind the last.
+#[unsafe(no_mangle)]
+pub extern "C" fn mv_debugger_request(
+    alloc: Global,
+    handle: &mut Handle,
+    place: usize,
+    out: &mut Request,
+) -> u32
+    ensures told { AtDebugger handle.old.value result handle.new.value
+        (λ s. TellsRequest (slice_get s.debugger.mirror.requests place) result out.old out.new
+        × (handle.new.value ≡ Some (kept.Debugger s))) }
+    ensures untouched { IsFalse (result == DONE) → out.new ≡ out.old }
+{
+    match handle.take_out(alloc) {
+        None => EMPTY,
+        Some(kept) => {
+            let code = match &*kept {
+                Kept::Debugger(seat) => tell_request(&seat.debugger, place, out),
+                Kept::Target(_) => OTHER_KIND,
+            };
+            handle.put(kept);
+            code
+        }
+    }
+}
+
+#[tactic(auto, using(crate::proofs::Requests::nth_is))]
+fn tell_request(debugger: &Debugger, place: usize, out: &mut Request) -> u32
+    ensures { TellsRequest (slice_get debugger.now.mirror.requests place) result out.old out.new }
+{
+    match debugger.mirror().requests().nth(place) {
+        None => NO_ITEM,
+        Some(kept) => {
+            *out = Request::of(kept);
+            DONE
         }
     }
 }

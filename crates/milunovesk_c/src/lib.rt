@@ -12,6 +12,8 @@ ghost use Rattle.milunovesk_c.specs.Numbers.{DONE};
 mod capturing;
 mod copying;
 mod debugging;
+mod error_names;
+mod fault_texts;
 mod framed;
 mod handle;
 mod handled;
@@ -19,6 +21,7 @@ mod heard;
 mod judged;
 mod kept;
 mod loose;
+mod naming;
 mod seat;
 mod targeting;
 mod widths;
@@ -27,8 +30,9 @@ mod written;
 pub use capturing::{mv_check, mv_show};
 pub use debugging::{
     mv_debugger_ask, mv_debugger_attach, mv_debugger_data, mv_debugger_feed, mv_debugger_lose,
-    mv_debugger_new, mv_debugger_new_apart, mv_debugger_take, mv_debugger_thread, mv_debugger_turn,
-    mv_debugger_unanswered, mv_debugger_waiting, mv_debugger_widths,
+    mv_debugger_new, mv_debugger_new_apart, mv_debugger_request, mv_debugger_take,
+    mv_debugger_thread, mv_debugger_turn, mv_debugger_unanswered, mv_debugger_waiting,
+    mv_debugger_widths,
 };
 pub use framed::{Framed, mv_next_packet};
 pub use handle::Handle;
@@ -36,12 +40,13 @@ pub use handled::Handled;
 pub use heard::Heard;
 pub use judged::Judged;
 use kept::Kept;
+pub use naming::{mv_command_name, mv_error_name, mv_fault_text};
 use std::alloc::Global;
 pub use targeting::{
     mv_target_accept, mv_target_feed, mv_target_live, mv_target_lose, mv_target_new,
     mv_target_step, mv_target_take, mv_target_thread, mv_target_turn, mv_target_waiting,
 };
-pub use widths::{Asked, IdWidths};
+pub use widths::{Asked, IdWidths, Request};
 
 /// The call did what it says.
 pub const DONE: u32 = 0;

@@ -1,8 +1,8 @@
 //! What calls on a debugger say, as C sees it.
 ghost use Rattle.std.specs.Prelude.{◌≡◌, None, Some};
-ghost use Rattle.milunovesk_c.specs.Seats.{unanswered_told, widths_told};
+ghost use Rattle.milunovesk_c.specs.Seats.{request_told, unanswered_told, widths_told};
 
-use jdwp_debugger::{Command, Ticket};
+use jdwp_debugger::{Command, KeptRequest, Ticket};
 use jdwp_wire::IdSizes;
 
 /// How many bytes each kind of id has: all 0 where that is not known.
@@ -72,6 +72,31 @@ impl Asked {
             ticket: ticket.0,
             set: command.set(),
             number: command.number(),
+        }
+    }
+}
+
+/// An event request of the target, as the debugger keeps it.
+#[repr(C)]
+#[derive(Clone, Copy)]
+pub struct Request {
+    /// The id in the target's reply.
+    pub id: i32,
+    /// The byte of the event kind.
+    pub kind: u8,
+    /// The byte of the suspend policy.
+    pub policy: u8,
+}
+
+impl Request {
+    /// This request.
+    pub(crate) fn of(kept: &KeptRequest) -> Request
+        ensures { result ≡ request_told kept.now }
+    {
+        Request {
+            id: kept.id(),
+            kind: kept.kind(),
+            policy: kept.policy(),
         }
     }
 }

@@ -32,6 +32,7 @@ __all__ = [
     "NotUtf8",
     "OutOfMemory",
     "Refused",
+    "Request",
     "Target",
     "Thread",
     "Unanswered",
@@ -39,6 +40,9 @@ __all__ = [
     "Waiting",
     "Widths",
     "check",
+    "command_name",
+    "error_name",
+    "fault_text",
     "show",
 ]
 
@@ -88,6 +92,14 @@ class Unanswered(NamedTuple):
     ticket: int
     set: int
     number: int
+
+
+class Request(NamedTuple):
+    """An event request that the target has: the id in its reply, and the event kind and the suspend policy as they were asked."""
+
+    id: int
+    kind: int
+    policy: int
 
 
 class Heard(NamedTuple):
@@ -142,6 +154,21 @@ def show(text: str | bytes) -> tuple[str, Verdict]:
         room = needed.value
     _done(answer)
     return buffer.raw[: needed.value].decode(), Verdict(out.fault, out.line)
+
+
+def command_name(set: int, number: int) -> Optional[str]:
+    """The name of a command, as `show` has it: `VirtualMachine.Suspend`. None where there is no such command."""
+    return c.text("mv_command_name", _within(set, 8), _within(number, 8))
+
+
+def error_name(error: int) -> Optional[str]:
+    """The name of an error code: `INVALID_THREAD`. None where the specification has no such code."""
+    return c.text("mv_error_name", _within(error, 16))
+
+
+def fault_text(number: int) -> Optional[str]:
+    """What the fault of this number is, in words. None where there is no such fault."""
+    return c.text("mv_fault_text", _within(number, 16))
 
 
 End = TypeVar("End", bound="_End")
@@ -278,8 +305,9 @@ class Debugger(_End):
         return Widths(out.field, out.method, out.object, out.reference, out.frame)
 
     def thread(self, thread: int) -> Optional[Thread]:
-        """What is known of a thread; None where it is not. Of a debugger that is `apart`: what is sure of a thread as long as it lives, None where
-        nothing is. It is no longer sure from the end of the thread on, which THREAD_DEATH tells."""
+        """What is known of a thread; None where it is not. Of a debugger that is `apart`: None where the thread was not named, by a composite of
+        its own or an answer without an error about it; else what is sure of it as long as it lives, with the count 0 and not held where nothing
+        is. It is no longer sure from the end of the thread on, which THREAD_DEATH tells."""
         known, count, held = c.flag(), c.number(32), c.flag()
         self._call("mv_debugger_thread", _within(thread, 64), known, count, held)
         return Thread(count.value, held.value) if known.value else None
@@ -293,6 +321,17 @@ class Debugger(_End):
             if out.ticket == 0:
                 return found
             found.append(Unanswered(out.ticket, out.set, out.number))
+
+    def requests(self) -> list[Request]:
+        """The event requests that the target has by all that was read in the session, the last one asked last."""
+        found: list[Request] = []
+        while True:
+            out = c.Request()
+            answer = c.library.mv_debugger_request(self._handle, len(found), out)
+            if answer == c.NO_ITEM:
+                return found
+            _done(answer)
+            found.append(Request(out.id, out.kind, out.policy))
 
     def lose(self) -> list[int]:
         """The connection is lost: the tickets that will never be answered."""

@@ -2,43 +2,13 @@
 
 from __future__ import annotations
 
-_TEXTS = {
-    0: "no fault",
-    1: "a packet length below 11",
-    2: "a packet length above the limit",
-    3: "packet flags other than 00 and 80",
-    4: "not the handshake",
-    11: "too few bytes",
-    12: "bytes are left over",
-    13: "a bad tag",
-    14: "a negative count",
-    15: "a string is not UTF-8",
-    21: "the text is not JSON",
-    22: "a member is missing or of another type",
-    23: "an id stands twice",
-    24: "an id is too wide",
-    25: "a bad reference",
-    26: "a limit is passed",
-    31: "the widths of ids are not known yet",
-    32: "too much waits",
-    33: "the session is closed",
-    34: "a command longer than a packet may be",
-    36: "a command that no target has, or data that do not read in its layout",
-    42: "a reply to no command that waits",
-    43: "a reply whose data do not read, or an error reply with data",
-    44: "more composites than may wait for the widths of ids",
-    45: "events that don't fit the suspend counts known, or another command",
-    51: "not a line of a capture",
-    53: "the id of a command that waits for its reply",
-    54: "a reply to no command",
-    55: "data in a reply with an error",
-    56: "a message of the other end",
-}
-
+from . import _library as c
 
 def text_of(number: int) -> str:
     """The fault in words."""
-    return _TEXTS.get(number, f"fault {number}")
+    if number == 0:
+        return "no fault"
+    return c.text("mv_fault_text", number) or f"fault {number}"
 
 
 class Error(Exception):

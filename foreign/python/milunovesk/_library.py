@@ -4,6 +4,7 @@ from __future__ import annotations
 
 import ctypes as c
 import os
+from typing import Optional
 
 DONE, EMPTY, LIVE, OTHER_KIND, NO_MEMORY, NOT_UTF8, SHORT_BUFFER, REFUSED, FAULT, NO_ITEM = range(10)
 MOST_TICKETS = 1024
@@ -39,6 +40,10 @@ class Asked(c.Structure):
     _fields_ = [("ticket", c.c_uint64), ("set", c.c_uint8), ("number", c.c_uint8)]
 
 
+class Request(c.Structure):
+    _fields_ = [("id", c.c_int32), ("kind", c.c_uint8), ("policy", c.c_uint8)]
+
+
 class Handled(c.Structure):
     _fields_ = [("kind", c.c_uint8), ("error", c.c_uint16), ("fault", c.c_uint16), ("id", c.c_uint32)]
 
@@ -66,6 +71,9 @@ _SIGNATURES: dict[str, list[object]] = {
     "mv_version": [],
     "mv_kind": [_H, _U8],
     "mv_free": [_H],
+    "mv_command_name": [c.c_uint8, c.c_uint8, _OUT, c.c_size_t, _SIZE],
+    "mv_error_name": [c.c_uint16, _OUT, c.c_size_t, _SIZE],
+    "mv_fault_text": [c.c_uint16, _OUT, c.c_size_t, _SIZE],
     "mv_check": [_IN, c.c_size_t, _P(Judged)],
     "mv_show": [_IN, c.c_size_t, _OUT, c.c_size_t, _SIZE, _P(Judged)],
     "mv_debugger_new": [_H, c.c_uint32],
@@ -80,6 +88,7 @@ _SIGNATURES: dict[str, list[object]] = {
     "mv_debugger_widths": [_H, _FLAG, _P(IdWidths)],
     "mv_debugger_thread": [_H, c.c_uint64, _FLAG, _U32, _FLAG],
     "mv_debugger_unanswered": [_H, c.c_size_t, _P(Asked)],
+    "mv_debugger_request": [_H, c.c_size_t, _P(Request)],
     "mv_debugger_lose": [_H, _U64, c.c_size_t, _SIZE],
     "mv_target_new": [_H, _IN, c.c_size_t, c.c_bool, c.c_uint32, _P(Judged)],
     "mv_target_accept": [_H, _FLAG],
@@ -107,3 +116,16 @@ def _open() -> c.CDLL:
 
 
 library = _open()
+
+
+def text(name: str, *arguments: int) -> Optional[str]:
+    """What a call for a name or a text gives; None where there is none."""
+    needed, room = size_t(), 128
+    while True:
+        out = buffer(room)
+        answer = getattr(library, name)(*arguments, out, room, needed)
+        if answer == NO_ITEM:
+            return None
+        if answer == DONE:
+            return out.raw[: needed.value].decode()
+        room = needed.value

@@ -51,6 +51,14 @@ class Captures(unittest.TestCase):
         self.assertEqual(milunovesk.check(twice), (53, 4))
         self.assertEqual(milunovesk.check("hello").fault, 51)
         self.assertEqual(milunovesk.check("hello").text, "not a line of a capture")
+
+    def test_names_and_texts(self) -> None:
+        self.assertEqual(milunovesk.command_name(11, 6), "ThreadReference.Frames")
+        self.assertIsNone(milunovesk.command_name(0, 1))
+        self.assertEqual(milunovesk.error_name(13), "THREAD_NOT_SUSPENDED")
+        self.assertIsNone(milunovesk.error_name(1))
+        self.assertEqual(milunovesk.fault_text(33), "the session is closed")
+        self.assertIsNone(milunovesk.fault_text(99))
         with self.assertRaises(milunovesk.NotUtf8):
             milunovesk.check(b"\xff")
 
@@ -78,8 +86,10 @@ class Sessions(unittest.TestCase):
             place = b"\x01" + ids(10, 20, 3)
             self.assertEqual(debugger.ask(15, 1, bytes.fromhex("02020000000107") + place), 1)
             self.assertEqual(debugger.unanswered(), [(1, 15, 1)])
+            self.assertEqual(debugger.requests(), [])
             self.assertEqual(hear(debugger, target), (Heard.ANSWERED, 1, 0, 1))
             self.assertEqual(debugger.data(), b"\0\0\0\x01")
+            self.assertEqual(debugger.requests(), [(1, 2, 2)])
             with self.assertRaises(IndexError):
                 debugger.data(1)
             self.assertEqual(debugger.ask(1, 9), 2)
@@ -110,12 +120,12 @@ class Sessions(unittest.TestCase):
                 pass
             self.assertEqual(debugger.thread(1), (1, True))
             self.assertIsNone(debugger.thread(2))
-            debugger.ask(1, 9)  # Resume: nothing is sure from the asking on
-            self.assertIsNone(debugger.thread(1))
+            debugger.ask(1, 9)  # Resume: nothing is sure from the asking on, of a thread that was named
+            self.assertEqual((debugger.thread(1), debugger.thread(2)), ((0, False), None))
             self.assertEqual(hear(debugger, target).ticket, 1)
             debugger.ask(11, 2, ids(1))  # Suspend of the thread, twice
             debugger.ask(11, 2, ids(1))
-            self.assertIsNone(debugger.thread(1))
+            self.assertEqual(debugger.thread(1), (0, False))
             self.assertEqual((hear(debugger, target).ticket, debugger.thread(1)), (2, (1, True)))
             self.assertEqual((hear(debugger, target).ticket, debugger.thread(1)), (3, (2, True)))
             self.assertEqual(target.count(1), 2)

@@ -73,6 +73,14 @@ pub struct Asked {
 
 #[repr(C)]
 #[derive(Default)]
+pub struct Request {
+    pub id: i32,
+    pub kind: u8,
+    pub policy: u8,
+}
+
+#[repr(C)]
+#[derive(Default)]
 pub struct Handled {
     pub kind: u8,
     pub error: u16,
@@ -86,6 +94,16 @@ extern "C" {
     pub fn mv_free(handle: *mut Handle);
 
     pub fn mv_next_packet(bytes: *const u8, length: usize, out: *mut Framed) -> u32;
+
+    pub fn mv_command_name(
+        set: u8,
+        number: u8,
+        out: *mut u8,
+        room: usize,
+        needed: *mut usize,
+    ) -> u32;
+    pub fn mv_error_name(error: u16, out: *mut u8, room: usize, needed: *mut usize) -> u32;
+    pub fn mv_fault_text(fault: u16, out: *mut u8, room: usize, needed: *mut usize) -> u32;
 
     pub fn mv_check(text: *const u8, length: usize, out: *mut Judged) -> u32;
     pub fn mv_show(
@@ -144,6 +162,7 @@ extern "C" {
         held: *mut bool,
     ) -> u32;
     pub fn mv_debugger_unanswered(handle: *mut Handle, place: usize, out: *mut Asked) -> u32;
+    pub fn mv_debugger_request(handle: *mut Handle, place: usize, out: *mut Request) -> u32;
     pub fn mv_debugger_lose(
         handle: *mut Handle,
         tickets: *mut u64,

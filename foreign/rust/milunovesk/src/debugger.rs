@@ -48,6 +48,14 @@ pub struct Unanswered {
     pub number: u8,
 }
 
+/// An event request that the target has: the id in its reply, and the event kind and the suspend policy as they were asked.
+#[derive(Clone, Copy, Debug, PartialEq, Eq)]
+pub struct Request {
+    pub id: i32,
+    pub kind: u8,
+    pub policy: u8,
+}
+
 // Each `unsafe` below is a call with a handle that is borrowed alone, slices with their lengths, and places of this function's own.
 impl Debugger {
     /// A debugger before its first session, whose first packet has this id.
@@ -67,7 +75,10 @@ impl Debugger {
     /// `NoMemory`.
     pub fn new_apart(first_id: u32) -> Result<Debugger, Failure> {
         let mut handle = Handle::new();
-        done(unsafe { sys::mv_debugger_new_apart(handle.lend(), first_id) }, 0)?;
+        done(
+            unsafe { sys::mv_debugger_new_apart(handle.lend(), first_id) },
+            0,
+        )?;
         Ok(Debugger(handle))
     }
 
@@ -177,8 +188,9 @@ impl Debugger {
         })
     }
 
-    /// What is known of a thread; None where it is not. Of a debugger by `new_apart`: what is sure of a thread as long as it lives, None where
-    /// nothing is. It is no longer sure from the end of the thread on, which THREAD_DEATH tells.
+    /// What is known of a thread; None where it is not. Of a debugger by `new_apart`: None where the thread was not named, by a composite of its
+    /// own or an answer without an error about it; else what is sure of it as long as it lives, with the count 0 and not held where nothing is.
+    /// It is no longer sure from the end of the thread on, which THREAD_DEATH tells.
     pub fn thread(&mut self, thread: u64) -> Option<Thread> {
         let (mut known, mut count, mut held) = (false, 0, false);
         sure(unsafe {
@@ -195,6 +207,20 @@ impl Debugger {
             ticket: out.ticket,
             set: out.set,
             number: out.number,
+        })
+    }
+
+    /// The event request at this place among those that the target has by all that was read in the session, the last one asked last, from 0.
+    pub fn request(&mut self, place: usize) -> Option<Request> {
+        let mut out = sys::Request::default();
+        match unsafe { sys::mv_debugger_request(self.0.lend(), place, &mut out) } {
+            sys::NO_ITEM => return None,
+            answer => sure(answer),
+        }
+        Some(Request {
+            id: out.id,
+            kind: out.kind,
+            policy: out.policy,
         })
     }
 

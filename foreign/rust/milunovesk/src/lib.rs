@@ -7,7 +7,7 @@ mod debugger;
 mod handle;
 mod target;
 
-pub use debugger::{Debugger, Heard, Thread, Unanswered, Widths};
+pub use debugger::{Debugger, Heard, Request, Thread, Unanswered, Widths};
 pub use target::{Handled, Stepped, Target, Unmade};
 
 use milunovesk_sys as sys;
@@ -29,7 +29,10 @@ impl fmt::Display for Failure {
     fn fmt(&self, f: &mut fmt::Formatter<'_>) -> fmt::Result {
         match self {
             Failure::NoMemory => f.write_str("no memory"),
-            Failure::Refused(number) | Failure::Fault(number) => write!(f, "fault {number}"),
+            Failure::Refused(number) | Failure::Fault(number) => match fault_text(*number) {
+                Some(text) => write!(f, "fault {number}: {text}"),
+                None => write!(f, "fault {number}"),
+            },
         }
     }
 }
@@ -83,6 +86,32 @@ pub fn show(text: &str) -> Result<(String, Option<CaptureFault>), Failure> {
     });
     let lines = lines.map_err(|answer| failure(answer, 0))?;
     Ok((String::from_utf8_lossy(&lines).into_owned(), judged(&out)))
+}
+
+/// The name of a command, as `show` has it: `VirtualMachine.Suspend`. None where there is no such command.
+pub fn command_name(set: u8, number: u8) -> Option<String> {
+    // SAFETY: the slice has its length, and `needed` is a place of its own.
+    text(|out, needed| unsafe {
+        sys::mv_command_name(set, number, out.as_mut_ptr(), out.len(), needed)
+    })
+}
+
+/// The name of an error code: `INVALID_THREAD`. None where the specification has no such code.
+pub fn error_name(error: u16) -> Option<String> {
+    // SAFETY: the slice has its length, and `needed` is a place of its own.
+    text(|out, needed| unsafe { sys::mv_error_name(error, out.as_mut_ptr(), out.len(), needed) })
+}
+
+/// What the fault of this number is, in words. None where there is no such fault.
+pub fn fault_text(number: u16) -> Option<String> {
+    // SAFETY: the slice has its length, and `needed` is a place of its own.
+    text(|out, needed| unsafe { sys::mv_fault_text(number, out.as_mut_ptr(), out.len(), needed) })
+}
+
+/// A name or a text; None where there is none, the one other answer.
+fn text(call: impl FnMut(&mut [u8], &mut usize) -> u32) -> Option<String> {
+    let bytes = filled(128, call).ok()?;
+    Some(String::from_utf8_lossy(&bytes).into_owned())
 }
 
 /// What a call writes into a buffer, which grows until it has room. The answer, where it is not that it was done.

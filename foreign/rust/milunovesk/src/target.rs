@@ -23,7 +23,7 @@ pub enum Unmade {
 impl fmt::Display for Unmade {
     fn fmt(&self, f: &mut fmt::Formatter<'_>) -> fmt::Result {
         match self {
-            Unmade::Script(number) => write!(f, "fault {number}"),
+            Unmade::Script(number) => fmt::Display::fmt(&Failure::Fault(*number), f),
             Unmade::BadLimit => f.write_str("a limit outside 1 to 2,147,483,647"),
             Unmade::NoMemory => f.write_str("no memory"),
         }

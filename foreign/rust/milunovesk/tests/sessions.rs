@@ -1,6 +1,7 @@
 //! Each call of the crate once on its way, and each failure.
 use milunovesk::{
-    check, show, CaptureFault, Debugger, Failure, Handled, Heard, Stepped, Target, Thread, Unmade,
+    check, command_name, error_name, fault_text, show, CaptureFault, Debugger, Failure, Handled,
+    Heard, Stepped, Target, Thread, Unmade,
 };
 use std::fs;
 
@@ -57,6 +58,20 @@ fn captures_are_judged_and_shown() {
 }
 
 #[test]
+fn names_and_texts_are_told() {
+    assert_eq!(
+        command_name(11, 6).as_deref(),
+        Some("ThreadReference.Frames")
+    );
+    assert_eq!(command_name(0, 1), None);
+    assert_eq!(error_name(13).as_deref(), Some("THREAD_NOT_SUSPENDED"));
+    assert_eq!(error_name(1), None);
+    assert_eq!(fault_text(33).as_deref(), Some("the session is closed"));
+    assert_eq!(fault_text(99), None);
+    assert_eq!(Failure::Fault(4).to_string(), "fault 4: not the handshake");
+}
+
+#[test]
 fn a_thread_is_surely_suspended() {
     let mut debugger = Debugger::new_apart(1).unwrap();
     let mut target = Target::new(&example("A.json"), true, 1000).unwrap();
@@ -68,14 +83,21 @@ fn a_thread_is_surely_suspended() {
         held: true,
     });
     assert_eq!((debugger.thread(1), debugger.thread(2)), (once, None));
-    // Resume: nothing is sure from the asking on
+    // Resume: nothing is sure from the asking on, of a thread that was named
+    let unsure = Some(Thread {
+        count: 0,
+        held: false,
+    });
     assert_eq!(debugger.ask(1, 9, &[]), Ok(1));
-    assert_eq!(debugger.thread(1), None);
+    assert_eq!((debugger.thread(1), debugger.thread(2)), (unsure, None));
     hear(&mut debugger, &mut target);
     assert_eq!(debugger.ask(11, 2, &ids(&[1])), Ok(2));
-    assert_eq!(debugger.thread(1), None);
+    assert_eq!(debugger.thread(1), unsure);
     hear(&mut debugger, &mut target);
     assert_eq!((debugger.thread(1), target.count(1)), (once, Some(1)));
+    // and nobody is known from the asking of Dispose on
+    assert_eq!(debugger.ask(1, 6, &[]), Ok(3));
+    assert_eq!(debugger.thread(1), None);
 }
 
 #[test]
@@ -123,6 +145,13 @@ fn a_thread_is_held_at_a_breakpoint() {
         }
     );
     assert_eq!(debugger.data(0), Ok(Some(vec![0, 0, 0, 1])));
+    assert_eq!(
+        debugger
+            .request(0)
+            .map(|one| (one.id, one.kind, one.policy)),
+        Some((1, 2, 2))
+    );
+    assert_eq!(debugger.request(1), None);
     assert_eq!(debugger.ask(1, 9, &[]), Ok(2));
     assert_eq!(
         hear(&mut debugger, &mut target),
