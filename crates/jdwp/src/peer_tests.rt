@@ -23,6 +23,17 @@ thread 1 1 held
 request 1 2 2
 ";
 
+/// The same where the target is taken to send replies and events by threads of their own.
+const APART: &str = "< hello
+< 1 Event.Composite 2 [(90, 0, #1)]
+< 1 reply VirtualMachine.IDSizes 0 8 8 8 8 8
+< 2 reply EventRequest.Set 0 1
+< 3 reply VirtualMachine.Resume 0
+< 2 Event.Composite 2 [(2, 1, #1, 1:#10:#20:3)]
+thread 1 1+ held
+request 1 2 2
+";
+
 /// Over memory and over a connection the same is printed.
 #[test]
 fn both_ends_run_a_plan(rt: HostRuntime) {
@@ -32,6 +43,8 @@ fn both_ends_run_a_plan(rt: HostRuntime) {
     let words = ["pair", machine, plan, "--memory", "--start", "all"];
     is_run(&rt, &words, 0, PRINTED, "");
     is_run(&rt, &["pair", machine, plan], 0, PRINTED, "");
+    let words = ["pair", machine, plan, "--order", "apart"];
+    is_run(&rt, &words, 0, APART, "");
     remove(&rt, &[machine, plan]);
 }
 

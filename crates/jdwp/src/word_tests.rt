@@ -146,7 +146,7 @@ fn other_words_are_refused(rt: HostRuntime) {
 }
 
 /// Words that are refused, with a space between them, and the texts that are told, with a `|`.
-static HELP: [(&str, &str); 21] = [
+static HELP: [(&str, &str); 22] = [
     (
         "",
         "error: 'jdwp' requires a subcommand but one was not provided|show, check, serve-script, attach|Usage: jdwp ",
@@ -165,7 +165,7 @@ static HELP: [(&str, &str); 21] = [
     ),
     (
         "pair --help",
-        "Runs a plan|Usage: jdwp pair |<MACHINE>|<PLAN>|a connection at 127.0.0.1|--memory|--start <WHICH>|--defer|--turns <N>",
+        "Runs a plan|Usage: jdwp pair |<MACHINE>|<PLAN>|a connection at 127.0.0.1|--memory|--order <ORDER>|[default: one]|one, apart|--start <WHICH>|--defer|--turns <N>",
     ),
     ("show --help", "Shows a capture|Usage: |<FILE>"),
     ("check --help", "Judges a capture|Usage: |<FILE>"),
@@ -198,6 +198,10 @@ static HELP: [(&str, &str); 21] = [
     ),
     (
         "attach p --port 80 --order both",
+        "error: invalid value 'both' for '--order <ORDER>'|one, apart",
+    ),
+    (
+        "pair m p --order both",
         "error: invalid value 'both' for '--order <ORDER>'|one, apart",
     ),
     (
@@ -388,6 +392,31 @@ fn words_of_pair_are_read(rt: HostRuntime) {
     }
 }
 
+/// The order of `pair`.
+#[test]
+fn orders_of_pair_are_read(rt: HostRuntime) {
+    let words = ["jdwp", "pair", "m", "p", "--order", "one"];
+    pairs_in(&rt, rt.alloc(), &words, Order::One);
+    let words = ["jdwp", "pair", "m", "p", "--order=apart"];
+    pairs_in(&rt, rt.alloc(), &words, Order::Apart);
+}
+
+/// These words of `pair` are read as of this order.
+fn pairs_in(rt: &impl Abort, alloc: Global, words: &[&str], order: Order) {
+    let standard = Limits::standard();
+    let settings = Settings::new(true, 65535, standard).expect(rt, "a count limit");
+    let want = Words::Pair(Pair {
+        machine: "m",
+        plan: "p",
+        between: Between::Loopback,
+        order,
+        settings,
+        defer: false,
+        turns: 100000,
+    });
+    are_read(rt, alloc, words, &want);
+}
+
 /// `--defer` at both commands that have a target.
 #[test]
 fn defer_is_read(rt: HostRuntime) {
@@ -429,6 +458,7 @@ fn pairs(
         machine: "m",
         plan: "p",
         between,
+        order: Order::One,
         settings,
         defer,
         turns,
@@ -507,6 +537,7 @@ fn limits_are_read(rt: HostRuntime) {
         machine: "m",
         plan: "p",
         between: Between::Loopback,
+        order: Order::One,
         settings,
         defer: false,
         turns: 100000,

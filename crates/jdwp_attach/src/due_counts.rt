@@ -59,8 +59,9 @@ fn pass_over(refused: Refused) -> Result<(), NoMemory>
     }
 }
 
-/// The thread whose suspend count is due behind a turn, if one is.
-fn due_count(debugger: &Debugger, turn: &Read) -> Option<ObjectId>
+/// The thread whose suspend count is due behind a turn, if one is: that of a composite that suspends its thread and leaves it unsure, where
+/// the target sends replies and composites by threads of their own, as long as anybody can be told.
+pub fn due_count(debugger: &Debugger, turn: &Read) -> Option<ObjectId>
     ensures { result ≡ id_found (due_count (read_meaning turn.now) debugger.now) }
 {
     match (debugger.order(), turn) {

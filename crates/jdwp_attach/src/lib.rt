@@ -6,8 +6,8 @@ mod attached;
 mod attaching;
 mod due_counts;
 mod run;
-mod telling;
 mod turning;
 
 pub use attached::Attached;
 pub use attaching::{attach, attach_by_lines};
+pub use due_counts::due_count;

@@ -10,9 +10,9 @@ ghost use Rattle.jdwp_tell.specs.Telling.{turn_lines};
 
 use crate::due_counts::ask_due_count;
 use crate::run::Run;
-use crate::telling::turn_text;
 use jdwp_debugger::{Debugger, DebuggerFault, Read};
 use jdwp_pipe::{CHUNK, Ended, NoInput, Pipe, flush_all, read_and_feed, write_all, write_out};
+use jdwp_tell::turn_text;
 use jdwp_wire::NoMemory;
 use std::alloc::Global;
 
@@ -153,7 +153,7 @@ fn tell<P: Pipe, W: Pipe>(
         debugger.lose();
         return Err(Ended::LostByWrite);
     }
-    let Ok(text) = turn_text(alloc, debugger, read) else {
+    let Ok(text) = turn_text(alloc, debugger.last(), read, debugger.sizes()) else {
         return Err(Ended::NoMemory);
     };
     if !write_all(out, text.as_bytes()) {

@@ -222,7 +222,8 @@ fn pair_bytes<'a, C: Connection, O: Pipe>(
     ensures paired { IfOk result (λ run. (machine : State)
         × (read_machine words.now.settings.limits.live script.now ≡ Ok machine)
         × Says (lines plan.now) (map said_by run.plan.items)
-        × PairsNew script_meaning words.now.settings words.now.defer machine run.plan.items
+        × PairsNew script_meaning words.now.settings words.now.defer words.now.order machine
+        run.plan.items
         run.ended) }
     ensures failed { IfOk result (λ run. is_some (C.failed_by connection.new)
         ≡ is_disconnected run.ended) }
@@ -230,9 +231,9 @@ fn pair_bytes<'a, C: Connection, O: Pipe>(
 {
     let machine = machine_of(alloc, words.machine, script, &words.settings.limits())?;
     let plan = plan_of(alloc, words.plan, plan)?;
-    let (settings, defer, turns) = (words.settings, words.defer, words.turns);
+    let (settings, defer, order, turns) = (words.settings, words.defer, words.order, words.turns);
     let ended = pair_session(
-        alloc, machine, settings, defer, connection, &plan, out, turns,
+        alloc, machine, settings, defer, order, connection, &plan, out, turns,
     )?;
     Ok(Paired { plan, ended })
 }

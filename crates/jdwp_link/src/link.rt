@@ -1,5 +1,5 @@
 //! A target and a debugger, and the bytes between them.
-ghost use Rattle.std.specs.Prelude.{◌≡◌, ◌≤◌, ◌<◌, ◌↔◌, [], Err, IfErr, IfOk, OnOk, false, get_or, length, take, true};
+ghost use Rattle.std.specs.Prelude.{◌≡◌, ◌≤◌, ◌<◌, ◌↔◌, ◌++◌, [], Err, IfErr, IfOk, OnOk, false, get_or, length, take, true};
 ghost use Rattle.jdwp_debuggee.specs.State as state;
 ghost use Rattle.jdwp_debugger.specs.Debuggers.{new_debugger};
 ghost use Rattle.jdwp_end.specs.Ends.{most_outgoing};
@@ -11,7 +11,7 @@ ghost use Rattle.jdwp_target.specs.Targets.{new_target};
 ghost use Rattle.jdwp_target.specs.declared.setup.SetupFault.TheVariants as setup;
 ghost use Rattle.jdwp_wire.specs.Limits.{standard_limits};
 ghost use Rattle.jdwp_link.specs.Clauses.{CountsAtMost, HoldsSuspended, MayStop, MirrorsSeen, Ran, RanOver, StaysTrue};
-ghost use Rattle.jdwp_link.specs.Links.{new_link};
+ghost use Rattle.jdwp_link.specs.Links.{new_link, way_to_debugger};
 ghost use Rattle.jdwp_link.specs.Outcomes.{MeetsNoFault};
 ghost use Rattle.jdwp_link.specs.Stands.{IsLink, StandsFor};
 ghost use Rattle.jdwp_link.specs.Told.{event_meanings};
@@ -214,6 +214,15 @@ impl<M: Machine + Drop> Link<M> {
         ensures { result.now ≡ self.now.debugger }
     {
         &self.debugger
+    }
+
+    /// The bytes under way to the debugger, where they lie, in three pieces of which the first comes first: what a target that lost the
+    /// connection had put, and then what waits at the target.
+    pub fn under_way_to_debugger(&self) -> (&[u8], &[u8], &[u8])
+        ensures { result.0.now ++ (result.1.now ++ result.2.now) ≡ way_to_debugger self.now }
+    {
+        let (first, second) = self.target.waiting_slices();
+        (self.to_debugger.as_slice(), first, second)
     }
 
     /// Whether the last event that `run` did was a turn that handled a message, a release that answered a command, or a step that was

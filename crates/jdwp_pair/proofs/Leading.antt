@@ -1,5 +1,5 @@
 -- events one after the other, and what they lead to together
-use Rattle.std.proofs.Common.{◌≡◌, ◌≤◌, inl, inr, ℕ, ◌+◌, ◌-◌, nat_lt, Bool, true, false, ◌||◌, List, [], ◌∷◌, ◌++◌, length, Option, Some, None, Result, Ok, Err, IfOk, IfErr, OnOk, if◌then◌else◌, refl, sym, ◌∙◌, ap, subst, arith}
+use Rattle.std.proofs.Common.{◌≡◌, ◌≤◌, inl, inr, ℕ, ◌+◌, ◌-◌, nat_lt, Bool, true, false, ◌||◌, List, [], ◌∷◌, ◌++◌, length, Option, Some, None, Result, Ok, Err, IfOk, IfErr, OnErr, OnOk, if◌then◌else◌, refl, sym, ◌∙◌, ap, subst, arith}
 use Rattle.std.proofs.lemmas.Grind.{common_steps}
 use Rattle.std.proofs.lemmas.List.{append_assoc}
 use Rattle.std.specs.List.{AllByRecursion}
@@ -22,8 +22,8 @@ use Rattle.jdwp_engine.specs.Rounds.{IsNext}
 use Rattle.jdwp_pipe.specs.Story.{Story, with_written}
 use Rattle.jdwp_pair.specs.declared.ended.PairEnded.{PairEnded}
 use Rattle.jdwp_pair.specs.declared.ended.PairEnded.TheVariants as ended
-use Rattle.jdwp_pair.specs.Events.{Happens, IsQuiet, Leads, Rests, Moved, Turned, Moves, Quietly, Standing, Stays, counted, piece, read_by, seen_in}
-use Rattle.jdwp_pair.specs.Rounds.{ComesToDebugger, ComesToTarget, EndsAt, EndsMoving, EndsQuietly, MovesOn, PieceToDebugger, PieceToTarget, ReleasesOrSteps, Repeats, NotYet, OneMore, RunsMachine, StepsEach, Over, Steps, StepsUntil, TurnsDebugger, TurnsTarget, Until, most_times}
+use Rattle.jdwp_pair.specs.Events.{Happens, IsQuiet, Leads, Rests, Moved, Turned, AskedCount, Moves, Quietly, Standing, Stays, counted, piece, read_by, seen_in}
+use Rattle.jdwp_pair.specs.Rounds.{ComesToDebugger, ComesToTarget, EndsAt, EndsMoving, EndsQuietly, MayCountWhere, MovesOn, PieceToDebugger, PieceToTarget, ReadsWhatComes, ReleasesOrSteps, Repeats, NotYet, OneMore, RunsMachine, StepsEach, Over, Steps, StepsUntil, TurnsDebugger, TurnsTarget, Until, most_times}
 use Rattle.jdwp_pair.specs.Telling.{FailsToTell, turn_text}
 
 run-append : {S : Type 0} (m : Meaning S) (settings : Settings) (measure : Measure) (x : World S) (es fs : List LinkEvent) → run m settings measure x (es ++ fs) ≡ run m settings measure (run m settings measure x es) fs
@@ -237,12 +237,20 @@ pub leads-on : {S : Type 0} (m : Meaning S) (a b c : Standing S) → Leads m a b
 leads-on m a b _ x Rests = x
 leads-on m a b _ x (Moved old new l moves) = Moved old new (leads-on m a b old x l) moves
 leads-on m a b _ x (Turned old new handled l r) = Turned old new handled (leads-on m a b old x l) r
+leads-on m a b _ x (AskedCount old new l c) = AskedCount old new (leads-on m a b old x l) c
 
 pub leads-moved : {S : Type 0} (m : Meaning S) (old : Standing S) (new : Link S) → Moves m old.link new → Leads m old (record old { link = new })
 leads-moved m old new moves = Moved old new Rests moves
 
+pub reads-lead : {S : Type 0} (m : Meaning S) (old new : Standing S) (handled : Bool) → ReadsWhatComes m old handled new → Leads m old new
+reads-lead m old new handled (fed, comes, r) = Turned (record old { link = fed }) new handled (leads-moved m old fed (come-to-debugger-moves m old.link fed comes)) r
+
+count-leads : {S : Type 0} (m : Meaning S) (first read : Standing S) (handled : Bool) (new : Standing S) → Leads m first read → MayCountWhere m handled read new → Leads m first new
+count-leads m first read true new l (counted, c, e) = subst (λ s. Leads m first s) (sym e) (AskedCount read counted l c)
+count-leads m first read false new l e = subst (λ s. Leads m first s) (sym e) l
+
 turns-debugger-lead : {S : Type 0} (m : Meaning S) (old new : Standing S) (handled : Bool) → TurnsDebugger m old handled new → Leads m old new
-turns-debugger-lead m old new handled (fed, comes, r) = Turned (record old { link = fed }) new handled (leads-moved m old fed (come-to-debugger-moves m old.link fed comes)) r
+turns-debugger-lead m old new handled (read, r, c) = count-leads m old read handled new (reads-lead m old read handled r) c
 
 pub repeats-lead : {S : Type 0} (m : Meaning S) (old : Standing S) (n : ℕ) (new : Standing S) → Repeats (TurnsDebugger m) old n new → Leads m old new
 repeats-lead m old _ _ NotYet = Rests
@@ -298,6 +306,14 @@ ends-behind m how a b new after l (last, more, e) = (last, leads-on m a b last l
 pub on-ok : {A E P Q : Type 0} (r : Result A E) → (P → Q) → OnOk r P → OnOk r Q
 on-ok (Ok a) f p = f p
 on-ok (Err e) f p = p
+
+pub on-err : {A E P Q : Type 0} (r : Result A E) → (P → Q) → OnErr r P → OnErr r Q
+on-err (Ok a) f p = p
+on-err (Err e) f p = f p
+
+pub always-err : {A E P : Type 0} (r : Result A E) → P → OnErr r P
+always-err (Ok a) p = tt
+always-err (Err e) p = p
 
 pub if-ok : {A E : Type 0} {P Q : A → Type 0} (r : Result A E) → ((a : A) → P a → Q a) → IfOk r P → IfOk r Q
 if-ok (Ok a) f p = f a p

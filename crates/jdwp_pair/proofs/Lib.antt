@@ -1,2 +1,4 @@
+pub mod Keeping
 pub mod Leading
 pub mod Planned
+pub mod Taking

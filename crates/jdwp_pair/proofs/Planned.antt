@@ -7,6 +7,9 @@ use Rattle.jdwp_machine.specs.Meanings.{Meaning}
 use Rattle.jdwp_action.specs.Actions.{Command}
 use Rattle.jdwp_debugger.specs.declared.pending.Ticket.{Ticket}
 use Rattle.jdwp_debugger.specs.Debuggers.{Asked, Debugger, Unanswered, at_place, has_tickets, seen_unanswered, unanswered}
+use Rattle.jdwp_attach.specs.OwnCounts.{suspend_count}
+use Rattle.jdwp_debugger.specs.declared.order.Order.{Order}
+use Rattle.jdwp_debugger.specs.declared.order.Order.TheVariants.{One, Apart}
 use Rattle.jdwp_model.specs.Events as events
 use Rattle.jdwp_model.specs.Events.{LinkEvent}
 use Rattle.jdwp_link.specs.declared.events.Outcome.{Outcome}
@@ -18,8 +21,8 @@ use Rattle.jdwp_plan.specs.declared.plan_line.PlanLine.TheVariants as line
 use Rattle.jdwp_pair.specs.declared.ended.PairEnded.{PairEnded}
 use Rattle.jdwp_pair.specs.declared.ended.PairEnded.TheVariants as ended
 use Rattle.jdwp_pair.specs.Connections.{is_disconnected}
-use Rattle.jdwp_pair.specs.Events.{Happens, Leads, Rests, Moved, Turned, MayLose, Moves, Reads, Standing, Stays}
-use Rattle.jdwp_pair.specs.Lines.{Asks, AsksFor, CarriesOut, Does, EndsAsking, EndsAtNext, EndsLine, EndsLosing, EndsLosingTarget, FailsLine, FailsToTellMirror, LosesDebugger, RefusesCommand, RefusesLine, TakesLine, command_by, is_due, is_due_at, next_is_due}
+use Rattle.jdwp_pair.specs.Events.{Happens, Leads, Rests, Moved, Turned, AskedCount, MayCount, MayLose, Moves, Reads, Standing, Stays}
+use Rattle.jdwp_pair.specs.Lines.{Asks, AsksFor, CarriesOut, Does, EndsAsking, EndsAtNext, EndsLine, EndsLosing, EndsLosingTarget, FailsLine, FailsToTellKnown, LosesDebugger, RefusesCommand, RefusesLine, TakesLine, command_by, is_due, is_due_at, next_is_due}
 use Rattle.jdwp_pair.specs.PlanRuns.{Ends, EndsBehind, Finishes, LosesBoth, Rounds, NoRound, Another, RunsPlan, beginning, is_finished, unflushed_end}
 use Rattle.jdwp_pair.specs.Rounds.{EndsAt, EndsMoving, EndsRound, EndsTurn, IsRound, begun_where}
 use Rattle.jdwp_pair.specs.Telling.{FailsToTell, lost_text}
@@ -56,26 +59,32 @@ reads-run : {S : Type 0} (m : Meaning S) (old : Standing S) (handled : Bool) (ne
 reads-run m old true new (told, r, did, e) = (events.DebuggerTurn ∷ [], told, r)
 reads-run m old false new ((told, r), did, e) = (events.DebuggerTurn ∷ [], told, r)
 
+counts-run : {S : Type 0} (m : Meaning S) (order : Order) (old new : Link S) → MayCount m order old new → Runs m old new
+counts-run m One old new e = runs-same m old new e
+counts-run m Apart old new (inl e) = runs-same m old new e
+counts-run m Apart old new (inr (thread, h)) = happens-run m (events.Ask (suspend_count thread)) old new h
+
 leads-run : {S : Type 0} (m : Meaning S) (first new : Standing S) → Leads m first new → Runs m first.link new.link
 leads-run m first _ Rests = runs-none m first.link
 leads-run m first _ (Moved old new l moves) = runs-both m first.link old.link new (leads-run m first old l) (moves-run m old.link new moves)
 leads-run m first _ (Turned old new handled l r) = runs-both m first.link old.link new.link (leads-run m first old l) (reads-run m old handled new r)
+leads-run m first _ (AskedCount old new l c) = runs-both m first.link old.link new (leads-run m first old l) (counts-run m old.order old.link new c)
 
 asks-run : {S : Type 0} (m : Meaning S) (c : Option Command) (old new : Link S) → AsksFor m c old new → Runs m old new
 asks-run m None old new h = absurd h
 asks-run m (Some c) old new (os, r, none) = (events.Ask c ∷ [], os, r)
 
-carries-run : {S : Type 0} (m : Meaning S) (line : PlanLine) (old : Link S) (before : Story) (new : Link S) (after : Story) → CarriesOut m line old before new after → Runs m old new
-carries-run m (line.Ask set number bytes) old before new after h = asks-run m (command_by old.debugger.sizes set number bytes.items) old new h.0
-carries-run m line.Answers old before new after h = runs-same m old new h.0
-carries-run m (line.Events count) old before new after h = runs-same m old new h.0
-carries-run m line.Mirror old before new after h = runs-same m old new h.0
-carries-run m line.LoseTarget old before new after h = happens-run m events.TargetLoses old new h.0
-carries-run m line.LoseDebugger old before new after (told, r, e) = (events.DebuggerLoses ∷ [], told, r)
-carries-run m line.Attach old before new after h = happens-run m events.Attach old new h.0
+carries-run : {S : Type 0} (m : Meaning S) (order : Order) (line : PlanLine) (old : Link S) (before : Story) (new : Link S) (after : Story) → CarriesOut m order line old before new after → Runs m old new
+carries-run m order (line.Ask set number bytes) old before new after h = asks-run m (command_by old.debugger.sizes set number bytes.items) old new h.0
+carries-run m order line.Answers old before new after h = runs-same m old new h.0
+carries-run m order (line.Events count) old before new after h = runs-same m old new h.0
+carries-run m order line.Mirror old before new after h = runs-same m old new h.0
+carries-run m order line.LoseTarget old before new after h = happens-run m events.TargetLoses old new h.0
+carries-run m order line.LoseDebugger old before new after (told, r, e) = (events.DebuggerLoses ∷ [], told, r)
+carries-run m order line.Attach old before new after h = happens-run m events.Attach old new h.0
 
 takes-run : {S : Type 0} (m : Meaning S) (plan : List PlanLine) (old : Standing S) (taken : Bool) (new : Standing S) → TakesLine m plan old taken new → Runs m old.link new.link
-takes-run {S} m plan old true new (due, (line, there, h, e)) = carries-run m line old.link old.out new.link new.out h
+takes-run {S} m plan old true new (due, (line, there, h, e)) = carries-run m old.order line old.link old.out new.link new.out h
 takes-run {S} m plan old false new (due, e) = runs-same m old.link new.link (ap (λ (s : Standing S). s.link) e)
 
 round-run : {S : Type 0} (m : Meaning S) (plan : List PlanLine) (old : Standing S) (happened : Bool) (new : Standing S) → IsRound m plan old happened new → Runs m old.link new.link
@@ -118,24 +127,24 @@ does-run m line.LoseTarget old new h = happens-run m events.TargetLoses old new 
 does-run m line.LoseDebugger old new h = happens-run m events.DebuggerLoses old new h
 does-run m line.Attach old new h = happens-run m events.Attach old new h
 
-fails-line-run : {S : Type 0} (m : Meaning S) (line : PlanLine) (old : Link S) (before : Story) (new : Link S) (after : Story) → FailsLine m line old before new after → Runs m old new
-fails-line-run m line.Mirror old before new after h = runs-same m old new h.0
-fails-line-run m line.LoseDebugger old before new after (told, r, f) = (events.DebuggerLoses ∷ [], told, r)
-fails-line-run m (line.Ask set number bytes) old before new after h = absurd h
-fails-line-run m line.Answers old before new after h = absurd h
-fails-line-run m (line.Events count) old before new after h = absurd h
-fails-line-run m line.LoseTarget old before new after h = absurd h
-fails-line-run m line.Attach old before new after h = absurd h
+fails-line-run : {S : Type 0} (m : Meaning S) (order : Order) (line : PlanLine) (old : Link S) (before : Story) (new : Link S) (after : Story) → FailsLine m order line old before new after → Runs m old new
+fails-line-run m order line.Mirror old before new after h = runs-same m old new h.0
+fails-line-run m order line.LoseDebugger old before new after (told, r, f) = (events.DebuggerLoses ∷ [], told, r)
+fails-line-run m order (line.Ask set number bytes) old before new after h = absurd h
+fails-line-run m order line.Answers old before new after h = absurd h
+fails-line-run m order (line.Events count) old before new after h = absurd h
+fails-line-run m order line.LoseTarget old before new after h = absurd h
+fails-line-run m order line.Attach old before new after h = absurd h
 
-ends-line-run : {S : Type 0} (m : Meaning S) (line : PlanLine) (place : ℕ) (how : PairEnded) (old : Link S) (before : Story) (new : Link S) (after : Story) → EndsLine m line place how old before new after → Runs m old new
-ends-line-run m line place (ended.RefusedLine at number) old before new after (is, h, e) = refused-runs m line number old new h
-ends-line-run m line place ended.NoMemory old before new after (h, e) = may-lose-run m old new h
-ends-line-run m line place ended.LostConnection old before new after (inl h, e) = may-lose-run m old new h
-ends-line-run m line place ended.LostConnection old before new after (inr h, e) = does-run m line old new h
-ends-line-run m line place ended.LostByWrite old before new after h = fails-line-run m line old before new after h
-ends-line-run m line place ended.Done old before new after h = absurd h
-ends-line-run m line place ended.TurnLimit old before new after h = absurd h
-ends-line-run m line place (ended.Standstill waits) old before new after h = absurd h
+ends-line-run : {S : Type 0} (m : Meaning S) (order : Order) (line : PlanLine) (place : ℕ) (how : PairEnded) (old : Link S) (before : Story) (new : Link S) (after : Story) → EndsLine m order line place how old before new after → Runs m old new
+ends-line-run m order line place (ended.RefusedLine at number) old before new after (is, h, e) = refused-runs m line number old new h
+ends-line-run m order line place ended.NoMemory old before new after (h, e) = may-lose-run m old new h
+ends-line-run m order line place ended.LostConnection old before new after (inl h, e) = may-lose-run m old new h
+ends-line-run m order line place ended.LostConnection old before new after (inr h, e) = does-run m line old new h
+ends-line-run m order line place ended.LostByWrite old before new after h = fails-line-run m order line old before new after h
+ends-line-run m order line place ended.Done old before new after h = absurd h
+ends-line-run m order line place ended.TurnLimit old before new after h = absurd h
+ends-line-run m order line place (ended.Standstill waits) old before new after h = absurd h
 
 ends-turn-run : {S : Type 0} (m : Meaning S) (how : PairEnded) (old : Standing S) (new : Link S) (after : Story) → EndsTurn m how old new after → Runs m old.link new
 ends-turn-run m ended.Done old new after (opened, (told, r, shut, e)) = (events.DebuggerTurn ∷ [], told, r)
@@ -149,7 +158,7 @@ ends-turn-run m ended.TurnLimit old new after h = absurd h
 ends-turn-run m (ended.Standstill waits) old new after h = absurd h
 
 ends-round-run : {S : Type 0} (m : Meaning S) (plan : List PlanLine) (how : PairEnded) (old : Standing S) (new : Link S) (after : Story) → EndsRound m plan how old new after → Runs m old.link new
-ends-round-run m plan how old new after (inl (due, (line, there, h))) = ends-line-run m line (old.carried + 1) how old.link old.out new after h
+ends-round-run m plan how old new after (inl (due, (line, there, h))) = ends-line-run m old.order line (old.carried + 1) how old.link old.out new after h
 ends-round-run m plan how old new after (inr (taken, named, takes, (last, l, h))) =
     runs-both m old.link named.link new (takes-run m plan old taken named takes) (runs-both m named.link last.link new (leads-run m named last l) (ends-turn-run m how last new after h))
 
@@ -185,10 +194,10 @@ behind-run m plan limit rounds ended.LostConnection old new after h = either-run
 behind-run m plan limit rounds ended.NoMemory old new after h = either-run m plan ended.NoMemory old new after h
 
 -- a session begins, and events follow
-pub plan-run : {S : Type 0} (m : Meaning S) (plan : List PlanLine) (limit : ℕ) (how : PairEnded) (old : Link S) (before : Story) (new : Link S) (after : Story) → RunsPlan m plan limit how old before new after
+pub plan-run : {S : Type 0} (m : Meaning S) (order : Order) (plan : List PlanLine) (limit : ℕ) (how : PairEnded) (old : Link S) (before : Story) (new : Link S) (after : Story) → RunsPlan m order plan limit how old before new after
     → (later : List LinkEvent) × (os : List Outcome) × Ran m (events.Attach ∷ later) old new os
-plan-run m plan limit how old before new after (first, (os, begins), e) =
-    let (later, more, r) = runs-both m first e.last.link new (rounds-run m plan (beginning first before) e.rounds e.last e.reached) (behind-run m plan limit e.rounds how e.last new after e.ends) in
+plan-run m order plan limit how old before new after (first, (os, begins), e) =
+    let (later, more, r) = runs-both m first e.last.link new (rounds-run m plan (beginning order first before) e.rounds e.last e.reached) (behind-run m plan limit e.rounds how e.last new after e.ends) in
     (later, os ++ more, ran-both m (events.Attach ∷ []) later old first new os more begins r)
 
 -- ---- calls
@@ -224,13 +233,13 @@ ends-finished m plan limit ended.LostConnection first old last n new after le rs
 ends-finished m plan limit ended.NoMemory first old last n new after le rs r done l = record { rounds = n; within = le; last = old; reached = rs; ends = inr (last, r, done, l) }
 
 -- before the first round
-pub ends-first : {S : Type 0} (m : Meaning S) (plan : List PlanLine) (limit : ℕ) (first : Link S) (before : Story) → Ends m plan limit ended.LostConnection (beginning first before) first before
-ends-first m plan limit first before = record {
+pub ends-first : {S : Type 0} (m : Meaning S) (order : Order) (plan : List PlanLine) (limit : ℕ) (first : Link S) (before : Story) → Ends m plan limit ended.LostConnection (beginning order first before) first before
+ends-first m order plan limit first before = record {
   rounds = 0;
   within = omega arith;
-  last = beginning first before;
+  last = beginning order first before;
   reached = NoRound;
-  ends = inl (inr (false, beginning first before, (refl, refl), (beginning first before, Rests, (inl ([], ran-none m first), refl))));
+  ends = inl (inr (false, beginning order first before, (refl, refl), (beginning order first before, Rests, (inl ([], ran-none m first), refl))));
 }
 
 -- ---- lines
@@ -254,53 +263,53 @@ stays-lose m old new (os, r) = ([], os, tt, r)
 same-lose : {S : Type 0} (m : Meaning S) (l : Link S) → MayLose m l l
 same-lose m l = ([], [], tt, ran-none m l)
 
-pub mirror-ends : {S A : Type 0} (m : Meaning S) (place : ℕ) (r : Result A PairEnded) (l : Link S) (before after : Story) → IfErr r (λ how. FailsToTellMirror l.debugger how before after)
-    → IfErr r (λ how. EndsLine m line.Mirror place how l before l after)
-mirror-ends m place (Ok done) l before after h = h
-mirror-ends m place (Err ended.NoMemory) l before after h = (same-lose m l, h)
-mirror-ends m place (Err ended.LostByWrite) l before after h = (refl, h)
-mirror-ends m place (Err ended.LostConnection) l before after h = absurd h
-mirror-ends m place (Err (ended.RefusedLine at number)) l before after h = absurd h
-mirror-ends m place (Err ended.Done) l before after h = absurd h
-mirror-ends m place (Err ended.TurnLimit) l before after h = absurd h
-mirror-ends m place (Err (ended.Standstill waits)) l before after h = absurd h
+pub mirror-ends : {S A : Type 0} (m : Meaning S) (order : Order) (place : ℕ) (r : Result A PairEnded) (l : Link S) (before after : Story) → IfErr r (λ how. FailsToTellKnown m order l how before after)
+    → IfErr r (λ how. EndsLine m order line.Mirror place how l before l after)
+mirror-ends m order place (Ok done) l before after h = h
+mirror-ends m order place (Err ended.NoMemory) l before after h = (same-lose m l, h)
+mirror-ends m order place (Err ended.LostByWrite) l before after h = (refl, h)
+mirror-ends m order place (Err ended.LostConnection) l before after h = absurd h
+mirror-ends m order place (Err (ended.RefusedLine at number)) l before after h = absurd h
+mirror-ends m order place (Err ended.Done) l before after h = absurd h
+mirror-ends m order place (Err ended.TurnLimit) l before after h = absurd h
+mirror-ends m order place (Err (ended.Standstill waits)) l before after h = absurd h
 
-pub losing-target-ends : {S A : Type 0} (m : Meaning S) (place : ℕ) (r : Result A PairEnded) (old new : Link S) (out : Story) → IfErr r (λ how. EndsLosingTarget m how old new) → IfErr r (λ how. EndsLine m line.LoseTarget place how old out new out)
-losing-target-ends m place (Ok done) old new out h = h
-losing-target-ends m place (Err ended.NoMemory) old new out h = (h, refl)
-losing-target-ends m place (Err ended.LostConnection) old new out h = (inl h, refl)
-losing-target-ends m place (Err ended.LostByWrite) old new out h = absurd h
-losing-target-ends m place (Err (ended.RefusedLine at number)) old new out h = absurd h
-losing-target-ends m place (Err ended.Done) old new out h = absurd h
-losing-target-ends m place (Err ended.TurnLimit) old new out h = absurd h
-losing-target-ends m place (Err (ended.Standstill waits)) old new out h = absurd h
+pub losing-target-ends : {S A : Type 0} (m : Meaning S) (order : Order) (place : ℕ) (r : Result A PairEnded) (old new : Link S) (out : Story) → IfErr r (λ how. EndsLosingTarget m how old new) → IfErr r (λ how. EndsLine m order line.LoseTarget place how old out new out)
+losing-target-ends m order place (Ok done) old new out h = h
+losing-target-ends m order place (Err ended.NoMemory) old new out h = (h, refl)
+losing-target-ends m order place (Err ended.LostConnection) old new out h = (inl h, refl)
+losing-target-ends m order place (Err ended.LostByWrite) old new out h = absurd h
+losing-target-ends m order place (Err (ended.RefusedLine at number)) old new out h = absurd h
+losing-target-ends m order place (Err ended.Done) old new out h = absurd h
+losing-target-ends m order place (Err ended.TurnLimit) old new out h = absurd h
+losing-target-ends m order place (Err (ended.Standstill waits)) old new out h = absurd h
 
-pub losing-debugger-ends : {S A : Type 0} (m : Meaning S) (place : ℕ) (r : Result A PairEnded) (old : Link S) (before : Story) (new : Link S) (after : Story) → IfErr r (λ how. EndsLosing m how old before new after)
-    → IfErr r (λ how. EndsLine m line.LoseDebugger place how old before new after)
-losing-debugger-ends m place (Ok done) old before new after h = h
-losing-debugger-ends m place (Err ended.NoMemory) old before new after h = h
-losing-debugger-ends m place (Err ended.LostConnection) old before new after h = (inl h.0, h.1)
-losing-debugger-ends m place (Err ended.LostByWrite) old before new after h = h
-losing-debugger-ends m place (Err (ended.RefusedLine at number)) old before new after h = absurd h
-losing-debugger-ends m place (Err ended.Done) old before new after h = absurd h
-losing-debugger-ends m place (Err ended.TurnLimit) old before new after h = absurd h
-losing-debugger-ends m place (Err (ended.Standstill waits)) old before new after h = absurd h
+pub losing-debugger-ends : {S A : Type 0} (m : Meaning S) (order : Order) (place : ℕ) (r : Result A PairEnded) (old : Link S) (before : Story) (new : Link S) (after : Story) → IfErr r (λ how. EndsLosing m how old before new after)
+    → IfErr r (λ how. EndsLine m order line.LoseDebugger place how old before new after)
+losing-debugger-ends m order place (Ok done) old before new after h = h
+losing-debugger-ends m order place (Err ended.NoMemory) old before new after h = h
+losing-debugger-ends m order place (Err ended.LostConnection) old before new after h = (inl h.0, h.1)
+losing-debugger-ends m order place (Err ended.LostByWrite) old before new after h = h
+losing-debugger-ends m order place (Err (ended.RefusedLine at number)) old before new after h = absurd h
+losing-debugger-ends m order place (Err ended.Done) old before new after h = absurd h
+losing-debugger-ends m order place (Err ended.TurnLimit) old before new after h = absurd h
+losing-debugger-ends m order place (Err (ended.Standstill waits)) old before new after h = absurd h
 
 stays-or-asks : {S : Type 0} (m : Meaning S) (c : Option Command) (line : PlanLine) (old new : Link S) → (Asks m c old new → Does m line old new) → Stays m old new ⊎ Asks m c old new → MayLose m old new ⊎ Does m line old new
 stays-or-asks m c line old new does (inl h) = inl (stays-lose m old new h)
 stays-or-asks m c line old new does (inr h) = inr (does h)
 
-pub asking-ends : {S A : Type 0} (m : Meaning S) (set number : ℕ) (bytes : Vec ℕ) (place : ℕ) (r : Result A PairEnded) (old new : Link S) (out : Story)
-    → IfErr r (λ how. EndsAsking m (command_by old.debugger.sizes set number bytes.items) place how old new) → IfErr r (λ how. EndsLine m (line.Ask set number bytes) place how old out new out)
-asking-ends m set number bytes place (Ok done) old new out h = h
-asking-ends m set number bytes place (Err (ended.RefusedLine at refused)) old new out h = (h.0, h.1, refl)
-asking-ends m set number bytes place (Err ended.NoMemory) old new out h = (stays-lose m old new h, refl)
-asking-ends m set number bytes place (Err ended.LostConnection) old new out h =
+pub asking-ends : {S A : Type 0} (m : Meaning S) (order : Order) (set number : ℕ) (bytes : Vec ℕ) (place : ℕ) (r : Result A PairEnded) (old new : Link S) (out : Story)
+    → IfErr r (λ how. EndsAsking m (command_by old.debugger.sizes set number bytes.items) place how old new) → IfErr r (λ how. EndsLine m order (line.Ask set number bytes) place how old out new out)
+asking-ends m order set number bytes place (Ok done) old new out h = h
+asking-ends m order set number bytes place (Err (ended.RefusedLine at refused)) old new out h = (h.0, h.1, refl)
+asking-ends m order set number bytes place (Err ended.NoMemory) old new out h = (stays-lose m old new h, refl)
+asking-ends m order set number bytes place (Err ended.LostConnection) old new out h =
     (stays-or-asks m (command_by old.debugger.sizes set number bytes.items) (line.Ask set number bytes) old new (λ a. a) h, refl)
-asking-ends m set number bytes place (Err ended.LostByWrite) old new out h = absurd h
-asking-ends m set number bytes place (Err ended.Done) old new out h = absurd h
-asking-ends m set number bytes place (Err ended.TurnLimit) old new out h = absurd h
-asking-ends m set number bytes place (Err (ended.Standstill waits)) old new out h = absurd h
+asking-ends m order set number bytes place (Err ended.LostByWrite) old new out h = absurd h
+asking-ends m order set number bytes place (Err ended.Done) old new out h = absurd h
+asking-ends m order set number bytes place (Err ended.TurnLimit) old new out h = absurd h
+asking-ends m order set number bytes place (Err (ended.Standstill waits)) old new out h = absurd h
 
 -- ---- losses
 

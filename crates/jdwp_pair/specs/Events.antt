@@ -1,7 +1,10 @@
 -- The events that a run of both ends is made of, and what they tell.
-use Rattle.std.specs.Prelude.{◌≡◌, ℕ, ◌≤◌, ◌+◌, ◌-◌, ◌^◌, min, Bool, true, false, List, [], ◌∷◌, Option, Some, None, count_by}
+use Rattle.std.specs.Prelude.{◌≡◌, ◌⊎◌, ℕ, ◌≤◌, ◌+◌, ◌-◌, ◌^◌, min, Bool, true, false, List, [], ◌∷◌, Option, Some, None, count_by}
 use Rattle.std.specs.List.{AllByRecursion}
+use Rattle.jdwp_attach.specs.OwnCounts.{suspend_count}
 use Rattle.jdwp_debugger.specs.declared.asking.Refused.{Refused}
+use Rattle.jdwp_debugger.specs.declared.order.Order.{Order}
+use Rattle.jdwp_debugger.specs.declared.order.Order.TheVariants.{One, Apart}
 use Rattle.jdwp_machine.specs.Meanings.{Meaning}
 use Rattle.jdwp_model.specs.Events
 use Rattle.jdwp_model.specs.Events.{LinkEvent}
@@ -94,13 +97,14 @@ MayLose m old new = (events : List LinkEvent) × (outcomes : List Outcome) × Al
 -- ---- how a run stands
 
 -- The link; how many lines of the plan were carried out; whether the widths of ids were known once, so that lines may be; how many composites
--- were read in the session, as far as they are counted; and what was printed.
+-- were read in the session, as far as they are counted; what was printed; and in which order the debugger takes the target to send.
 pub record Standing (S : Type 0) : Type 0 where
   pub link : Link S
   pub carried : ℕ
   pub begun : Bool
   pub read : ℕ
   pub out : Story
+  pub order : Order
 
 -- so many are counted at most
 abbrev pub counted : ℕ → ℕ
@@ -115,8 +119,15 @@ abbrev pub Reads : {S : Type 0} → Meaning S → Standing S → Bool → Standi
 Reads m old true new = (told : List Outcome) × Ran m (Events.DebuggerTurn ∷ []) old.link new.link told × (new.link.did ≡ true) × (new ≡ read_by told new.link old)
 Reads m old false new = Happens m Events.DebuggerTurn old.link new.link × (new.link.did ≡ false) × (new ≡ record old { link = new.link })
 
--- Events of rounds lead from where one run stands to the other: those of which nothing is told, and turns of the debugger.
+-- Where the target is taken to send replies and events by threads of its own, the suspend count of a thread may be asked behind a turn.
+abbrev pub MayCount : {S : Type 0} → Meaning S → Order → Link S → Link S → Type 0
+MayCount m One old new = new ≡ old
+MayCount m Apart old new = (new ≡ old) ⊎ ((thread : ℕ) × Happens m (Events.Ask (suspend_count thread)) old new)
+
+-- Events of rounds lead from where one run stands to the other: those of which nothing is told, and turns of the debugger, with the counts
+-- that are asked behind them.
 pub data Leads {S : Type 0} (m : Meaning S) (first : Standing S) : Standing S → Type 0 where
   Rests : Leads m first first
   Moved : (old : Standing S) (new : Link S) → Leads m first old → Moves m old.link new → Leads m first (record old { link = new })
   Turned : (old new : Standing S) (handled : Bool) → Leads m first old → Reads m old handled new → Leads m first new
+  AskedCount : (old : Standing S) (new : Link S) → Leads m first old → MayCount m old.order old.link new → Leads m first (record old { link = new })

@@ -1,6 +1,7 @@
 pub mod Calls
 pub mod Connections
 pub mod Events
+pub mod Followers
 pub mod Lines
 pub mod Loopbacks
 pub mod PlanRuns

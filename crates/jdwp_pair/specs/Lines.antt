@@ -6,6 +6,8 @@ use Rattle.jdwp_machine.specs.Meanings.{Meaning}
 use Rattle.jdwp_action.specs.Actions.{Command, Raw}
 use Rattle.jdwp_debugger.specs.declared.asking.Refused.{Refused}
 use Rattle.jdwp_debugger.specs.declared.asking.Refused.TheVariants as refusal
+use Rattle.jdwp_debugger.specs.declared.order.Order.{Order}
+use Rattle.jdwp_debugger.specs.declared.order.Order.TheVariants.{One, Apart}
 use Rattle.jdwp_debugger.specs.Debuggers.{Debugger, has_tickets}
 use Rattle.jdwp_debugger.specs.RefusedNumbers.{refused_number}
 use Rattle.jdwp_model.specs.Events.{LinkEvent, Attach, Ask, TargetLoses, DebuggerLoses}
@@ -17,10 +19,11 @@ use Rattle.jdwp_plan.specs.declared.plan_line.PlanLine.{PlanLine}
 use Rattle.jdwp_plan.specs.declared.plan_line.PlanLine.TheVariants as line
 use Rattle.jdwp_attach.specs.PlanAsks.{command_asked}
 use Rattle.jdwp_port.specs.Served.{lives}
-use Rattle.jdwp_tell.specs.Telling.{TellsMirror}
+use Rattle.jdwp_tell.specs.Telling.{TellsKnown, TellsMirror}
 use Rattle.jdwp_pair.specs.declared.ended.PairEnded.{PairEnded}
 use Rattle.jdwp_pair.specs.declared.ended.PairEnded.TheVariants as ended
 use Rattle.jdwp_pair.specs.Events.{Happens, MayLose, Standing, Stays, refusal_in}
+use Rattle.jdwp_pair.specs.Followers.{Follows}
 use Rattle.jdwp_pair.specs.Telling.{lost_text}
 
 -- ---- when a line can be carried out
@@ -63,23 +66,29 @@ abbrev pub AsksFor : {S : Type 0} → Meaning S → Option Command → Link S �
 AsksFor m None old new = ⊥
 AsksFor m (Some command) old new = (outcomes : List Outcome) × Ran m (Ask command ∷ []) old new outcomes × (refusal_in outcomes ≡ None)
 
--- what the debugger knows was printed: the lines of its mirror
-abbrev pub PrintsMirror : Debugger → Story → Story → Type 0
-PrintsMirror d before after = (text : List ℕ) × TellsMirror d.mirror text × (after ≡ with_written text before)
+-- These lines tell what is known: those of the mirror; or where the target is taken to send replies and events by threads of its own, what is
+-- surely so by all that the debugger put and read, as one that followed it knows.
+abbrev pub TellsBy : {S : Type 0} → Meaning S → Order → Link S → List ℕ → Type 0
+TellsBy m One l text = TellsMirror l.debugger.mirror text
+TellsBy m Apart l text = (f : Debugger) × Follows m l f × TellsKnown f text
+
+-- they were printed
+abbrev pub PrintsKnown : {S : Type 0} → Meaning S → Order → Link S → Story → Story → Type 0
+PrintsKnown m order l before after = (text : List ℕ) × TellsBy m order l text × (after ≡ with_written text before)
 
 -- the debugger noticed that the connection is lost, and the tickets that are lost with it were printed
 abbrev pub LosesDebugger : {S : Type 0} → Meaning S → Link S → Story → Link S → Story → Type 0
 LosesDebugger m old before new after = (told : List Outcome) × Ran m (DebuggerLoses ∷ []) old new told × (after ≡ with_written (lost_text told) before)
 
 -- what a line does to a link, and what is printed of it
-abbrev pub CarriesOut : {S : Type 0} → Meaning S → PlanLine → Link S → Story → Link S → Story → Type 0
-CarriesOut m (line.Ask set number bytes) old before new after = AsksFor m (command_by old.debugger.sizes set number bytes.items) old new × (after ≡ before)
-CarriesOut m line.Answers old before new after = (new ≡ old) × (after ≡ before)
-CarriesOut m (line.Events count) old before new after = (new ≡ old) × (after ≡ before)
-CarriesOut m line.Mirror old before new after = (new ≡ old) × PrintsMirror old.debugger before after
-CarriesOut m line.LoseTarget old before new after = Happens m TargetLoses old new × (after ≡ before)
-CarriesOut m line.LoseDebugger old before new after = LosesDebugger m old before new after
-CarriesOut m line.Attach old before new after = Happens m Attach old new × (after ≡ before)
+abbrev pub CarriesOut : {S : Type 0} → Meaning S → Order → PlanLine → Link S → Story → Link S → Story → Type 0
+CarriesOut m order (line.Ask set number bytes) old before new after = AsksFor m (command_by old.debugger.sizes set number bytes.items) old new × (after ≡ before)
+CarriesOut m order line.Answers old before new after = (new ≡ old) × (after ≡ before)
+CarriesOut m order (line.Events count) old before new after = (new ≡ old) × (after ≡ before)
+CarriesOut m order line.Mirror old before new after = (new ≡ old) × PrintsKnown m order old before after
+CarriesOut m order line.LoseTarget old before new after = Happens m TargetLoses old new × (after ≡ before)
+CarriesOut m order line.LoseDebugger old before new after = LosesDebugger m old before new after
+CarriesOut m order line.Attach old before new after = Happens m Attach old new × (after ≡ before)
 
 -- of so many composites read so many are counted behind a line: none behind `attach`, where the session is new
 abbrev pub counted_behind : PlanLine → ℕ → ℕ
@@ -99,7 +108,7 @@ behind line new after old = record old { link = new; carried = old.carried + 1; 
 abbrev pub TakesLine : {S : Type 0} → Meaning S → List PlanLine → Standing S → Bool → Standing S → Type 0
 TakesLine m plan old true new =
     (next_is_due m plan old ≡ true)
-    × ((line : PlanLine) × (slice_get plan old.carried ≡ Some line) × CarriesOut m line old.link old.out new.link new.out × (new ≡ behind line new.link new.out old))
+    × ((line : PlanLine) × (slice_get plan old.carried ≡ Some line) × CarriesOut m old.order line old.link old.out new.link new.out × (new ≡ behind line new.link new.out old))
 TakesLine m plan old false new = (next_is_due m plan old ≡ false) × (new ≡ old)
 
 -- ---- how a run may end at a line
@@ -134,39 +143,39 @@ Does m line.LoseTarget old new = Happens m TargetLoses old new
 Does m line.LoseDebugger old new = Happens m DebuggerLoses old new
 Does m line.Attach old new = Happens m Attach old new
 
--- the lines of a mirror were printed in part, and then a write failed
-abbrev pub FailsMirror : Debugger → Story → Story → Type 0
-FailsMirror d before after = (text : List ℕ) × TellsMirror d.mirror text × FailsWrite before after text
+-- these lines were printed in part, and then a write failed
+abbrev pub FailsKnown : {S : Type 0} → Meaning S → Order → Link S → Story → Story → Type 0
+FailsKnown m order l before after = (text : List ℕ) × TellsBy m order l text × FailsWrite before after text
 
 -- the debugger noticed that the connection is lost, and a write failed of the tickets that are lost with it
 abbrev pub FailsLost : {S : Type 0} → Meaning S → Link S → Story → Link S → Story → Type 0
 FailsLost m old before new after = (told : List Outcome) × Ran m (DebuggerLoses ∷ []) old new told × FailsWrite before after (lost_text told)
 
 -- a write failed of what a line prints
-abbrev pub FailsLine : {S : Type 0} → Meaning S → PlanLine → Link S → Story → Link S → Story → Type 0
-FailsLine m line.Mirror old before new after = (new ≡ old) × FailsMirror old.debugger before after
-FailsLine m line.LoseDebugger old before new after = FailsLost m old before new after
-FailsLine m (line.Ask set number bytes) old before new after = ⊥
-FailsLine m line.Answers old before new after = ⊥
-FailsLine m (line.Events count) old before new after = ⊥
-FailsLine m line.LoseTarget old before new after = ⊥
-FailsLine m line.Attach old before new after = ⊥
+abbrev pub FailsLine : {S : Type 0} → Meaning S → Order → PlanLine → Link S → Story → Link S → Story → Type 0
+FailsLine m order line.Mirror old before new after = (new ≡ old) × FailsKnown m order old before after
+FailsLine m order line.LoseDebugger old before new after = FailsLost m old before new after
+FailsLine m order (line.Ask set number bytes) old before new after = ⊥
+FailsLine m order line.Answers old before new after = ⊥
+FailsLine m order (line.Events count) old before new after = ⊥
+FailsLine m order line.LoseTarget old before new after = ⊥
+FailsLine m order line.Attach old before new after = ⊥
 
 -- How a run may end at a line of this place, counted from 1: its command is refused; what it does failed or wanted memory, and nothing was
 -- printed of it; or a write failed of what it prints.
-abbrev pub EndsLine : {S : Type 0} → Meaning S → PlanLine → ℕ → PairEnded → Link S → Story → Link S → Story → Type 0
-EndsLine m line place (ended.RefusedLine at number) old before new after = (at ≡ place) × RefusesLine m line number old new × (after ≡ before)
-EndsLine m line place ended.NoMemory old before new after = MayLose m old new × (after ≡ before)
-EndsLine m line place ended.LostConnection old before new after = (MayLose m old new ⊎ Does m line old new) × (after ≡ before)
-EndsLine m line place ended.LostByWrite old before new after = FailsLine m line old before new after
-EndsLine m line place ended.Done old before new after = ⊥
-EndsLine m line place ended.TurnLimit old before new after = ⊥
-EndsLine m line place (ended.Standstill waits) old before new after = ⊥
+abbrev pub EndsLine : {S : Type 0} → Meaning S → Order → PlanLine → ℕ → PairEnded → Link S → Story → Link S → Story → Type 0
+EndsLine m order line place (ended.RefusedLine at number) old before new after = (at ≡ place) × RefusesLine m line number old new × (after ≡ before)
+EndsLine m order line place ended.NoMemory old before new after = MayLose m old new × (after ≡ before)
+EndsLine m order line place ended.LostConnection old before new after = (MayLose m old new ⊎ Does m line old new) × (after ≡ before)
+EndsLine m order line place ended.LostByWrite old before new after = FailsLine m order line old before new after
+EndsLine m order line place ended.Done old before new after = ⊥
+EndsLine m order line place ended.TurnLimit old before new after = ⊥
+EndsLine m order line place (ended.Standstill waits) old before new after = ⊥
 
 -- it does at the next line, which is due
 abbrev pub EndsAtNext : {S : Type 0} → Meaning S → List PlanLine → PairEnded → Standing S → Link S → Story → Type 0
 EndsAtNext m plan how old new after =
-    (next_is_due m plan old ≡ true) × ((line : PlanLine) × (slice_get plan old.carried ≡ Some line) × EndsLine m line (old.carried + 1) how old.link old.out new after)
+    (next_is_due m plan old ≡ true) × ((line : PlanLine) × (slice_get plan old.carried ≡ Some line) × EndsLine m old.order line (old.carried + 1) how old.link old.out new after)
 
 -- ---- calls
 
@@ -180,15 +189,15 @@ EndsAsking m command place ended.Done old new = ⊥
 EndsAsking m command place ended.TurnLimit old new = ⊥
 EndsAsking m command place (ended.Standstill waits) old new = ⊥
 
--- how printing a mirror may
-abbrev pub FailsToTellMirror : Debugger → PairEnded → Story → Story → Type 0
-FailsToTellMirror d ended.NoMemory before after = after ≡ before
-FailsToTellMirror d ended.LostByWrite before after = FailsMirror d before after
-FailsToTellMirror d ended.LostConnection before after = ⊥
-FailsToTellMirror d ended.Done before after = ⊥
-FailsToTellMirror d (ended.RefusedLine place number) before after = ⊥
-FailsToTellMirror d ended.TurnLimit before after = ⊥
-FailsToTellMirror d (ended.Standstill waits) before after = ⊥
+-- how printing what is known may
+abbrev pub FailsToTellKnown : {S : Type 0} → Meaning S → Order → Link S → PairEnded → Story → Story → Type 0
+FailsToTellKnown m order l ended.NoMemory before after = after ≡ before
+FailsToTellKnown m order l ended.LostByWrite before after = FailsKnown m order l before after
+FailsToTellKnown m order l ended.LostConnection before after = ⊥
+FailsToTellKnown m order l ended.Done before after = ⊥
+FailsToTellKnown m order l (ended.RefusedLine place number) before after = ⊥
+FailsToTellKnown m order l ended.TurnLimit before after = ⊥
+FailsToTellKnown m order l (ended.Standstill waits) before after = ⊥
 
 -- how a loss at the debugger may
 abbrev pub EndsLosing : {S : Type 0} → Meaning S → PairEnded → Link S → Story → Link S → Story → Type 0

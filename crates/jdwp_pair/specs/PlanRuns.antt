@@ -3,6 +3,7 @@ use Rattle.std.specs.Prelude.{◌≡◌, ◌⊎◌, ℕ, ◌≤◌, ◌+◌, min
 use Rattle.jdwp_machine.specs.Meanings.{Meaning}
 use Rattle.jdwp_debuggee.specs.Settings.{Settings}
 use Rattle.jdwp_debuggee.specs.State.{new_state}
+use Rattle.jdwp_debugger.specs.declared.order.Order.{Order}
 use Rattle.jdwp_debugger.specs.Debuggers.{has_tickets}
 use Rattle.jdwp_model.specs.Events.{Attach, Defer, TargetLoses}
 use Rattle.jdwp_link.specs.Clauses.{HoldsSuspended}
@@ -17,9 +18,9 @@ use Rattle.jdwp_pair.specs.Rounds.{EndsRound, IsRound}
 
 -- ---- rounds
 
--- before the first round of a run that prints to this
-abbrev pub beginning : {S : Type 0} → Link S → Story → Standing S
-beginning l out = record { link = l; carried = 0; begun = false; read = 0; out = out }
+-- before the first round of a run that prints to this, whose target is taken to send in this order
+abbrev pub beginning : {S : Type 0} → Order → Link S → Story → Standing S
+beginning order l out = record { link = l; carried = 0; begun = false; read = 0; out = out; order = order }
 
 -- The plan is finished: all lines were carried out, once lines may be, and no command waits for its answer.
 abbrev pub is_finished : {S : Type 0} → List PlanLine → Standing S → Bool
@@ -76,22 +77,22 @@ unflushed_end ended.TurnLimit = ended.LostByWrite
 unflushed_end (ended.Standstill waits) = ended.LostByWrite
 
 -- A run of a plan: a session begins, and rounds follow, of which this is told.
-abbrev pub RunsPlan : {S : Type 0} → Meaning S → List PlanLine → ℕ → PairEnded → Link S → Story → Link S → Story → Type 0
-RunsPlan {S} m plan limit how old before new after = (first : Link S) × Happens m Attach old first × Ends m plan limit how (beginning first before) new after
+abbrev pub RunsPlan : {S : Type 0} → Meaning S → Order → List PlanLine → ℕ → PairEnded → Link S → Story → Link S → Story → Type 0
+RunsPlan {S} m order plan limit how old before new after = (first : Link S) × Happens m Attach old first × Ends m plan limit how (beginning order first before) new after
 
 -- The same, and what was printed leaves; or the last flush fails.
-pub data PairsBy {S : Type 0} (m : Meaning S) (plan : List PlanLine) (limit : ℕ) (old : Link S) (before : Story) (new : Link S) : PairEnded → Story → Type 0 where
-  Leaves : (how : PairEnded) (printed : Story) → RunsPlan m plan limit how old before new printed → PairsBy m plan limit old before new how (flushed printed)
-  Stays : (how : PairEnded) (printed after : Story) → RunsPlan m plan limit how old before new printed → FailsFlush printed after
-      → PairsBy m plan limit old before new (unflushed_end how) after
+pub data PairsBy {S : Type 0} (m : Meaning S) (order : Order) (plan : List PlanLine) (limit : ℕ) (old : Link S) (before : Story) (new : Link S) : PairEnded → Story → Type 0 where
+  Leaves : (how : PairEnded) (printed : Story) → RunsPlan m order plan limit how old before new printed → PairsBy m order plan limit old before new how (flushed printed)
+  Stays : (how : PairEnded) (printed after : Story) → RunsPlan m order plan limit how old before new printed → FailsFlush printed after
+      → PairsBy m order plan limit old before new (unflushed_end how) after
 
--- The same of a link before its first session, whose target defers replies from the beginning or answers each command at once. Whom the
+-- The same of a link before its first session, whose target defers replies from the beginning or answers each command at once. Whom the link's
 -- debugger shows as suspended is suspended at the end.
-abbrev pub PairsNewBy : {S : Type 0} → Meaning S → Settings → Bool → S → List PlanLine → ℕ → PairEnded → Story → Story → Type 0
-PairsNewBy {S} m settings defer machine plan limit ended before after =
+abbrev pub PairsNewBy : {S : Type 0} → Meaning S → Settings → Bool → Order → S → List PlanLine → ℕ → PairEnded → Story → Story → Type 0
+PairsNewBy {S} m settings defer order machine plan limit ended before after =
     (begun : Link S) × (new : Link S) × Happens m (Defer defer) (new_link settings (record { state = new_state (m.live machine); machine = machine })) begun
-    × PairsBy m plan limit begun before new ended after × HoldsSuspended new
+    × PairsBy m order plan limit begun before new ended after × HoldsSuspended new
 
 -- the same, of some number of rounds, whatever was printed before
-abbrev pub PairsNew : {S : Type 0} → Meaning S → Settings → Bool → S → List PlanLine → PairEnded → Type 0
-PairsNew m settings defer machine plan ended = (limit : ℕ) × (before : Story) × (after : Story) × PairsNewBy m settings defer machine plan limit ended before after
+abbrev pub PairsNew : {S : Type 0} → Meaning S → Settings → Bool → Order → S → List PlanLine → PairEnded → Type 0
+PairsNew m settings defer order machine plan ended = (limit : ℕ) × (before : Story) × (after : Story) × PairsNewBy m settings defer order machine plan limit ended before after

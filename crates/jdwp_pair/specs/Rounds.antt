@@ -4,6 +4,7 @@ use Rattle.std.specs.Prelude.{◌≡◌, ◌⊎◌, ℕ, ◌+◌, ◌-◌, ◌^�
 use Rattle.jdwp_wire.specs.Streams as streams
 use Rattle.jdwp_end.specs.Ends.{is_open, room_of}
 use Rattle.jdwp_machine.specs.Meanings.{Meaning}
+use Rattle.jdwp_debugger.specs.declared.order.Order.{Order}
 use Rattle.jdwp_model.specs.Events
 use Rattle.jdwp_link.specs.declared.events.Outcome.{Outcome}
 use Rattle.jdwp_link.specs.Clauses.{Ran}
@@ -13,7 +14,7 @@ use Rattle.jdwp_pipe.specs.Story.{FailsWrite, Story, with_written}
 use Rattle.jdwp_plan.specs.declared.plan_line.PlanLine.{PlanLine}
 use Rattle.jdwp_pair.specs.declared.ended.PairEnded.{PairEnded}
 use Rattle.jdwp_pair.specs.declared.ended.PairEnded.TheVariants as ended
-use Rattle.jdwp_pair.specs.Events.{Happens, Leads, Moves, Quietly, Reads, Standing, Stays, piece}
+use Rattle.jdwp_pair.specs.Events.{Happens, Leads, MayCount, Moves, Quietly, Reads, Standing, Stays, piece}
 use Rattle.jdwp_pair.specs.Lines.{EndsAtNext, TakesLine}
 use Rattle.jdwp_pair.specs.Telling.{turn_text}
 
@@ -81,9 +82,18 @@ PieceToDebugger m old whole new = Quietly m (Events.ToDebugger piece) old new ×
 abbrev pub ComesToDebugger : {S : Type 0} → Meaning S → Link S → Link S → Type 0
 ComesToDebugger m old new = (some : Bool) × Until (PieceToDebugger m) old some new
 
+-- behind a turn that handled a message a count may be asked
+abbrev pub MayCountWhere : {S : Type 0} → Meaning S → Bool → Standing S → Standing S → Type 0
+MayCountWhere {S} m true read new = (counted : Link S) × MayCount m read.order read.link counted × (new ≡ record read { link = counted })
+MayCountWhere m false read new = new ≡ read
+
 -- bytes come, and it handles what is in front of it, and it is told: whether it handled a message
+abbrev pub ReadsWhatComes : {S : Type 0} → Meaning S → Standing S → Bool → Standing S → Type 0
+ReadsWhatComes {S} m old handled new = (fed : Link S) × ComesToDebugger m old.link fed × Reads m (record old { link = fed }) handled new
+
+-- it does, and then a count may be asked
 abbrev pub TurnsDebugger : {S : Type 0} → Meaning S → Standing S → Bool → Standing S → Type 0
-TurnsDebugger {S} m old handled new = (fed : Link S) × ComesToDebugger m old.link fed × Reads m (record old { link = fed }) handled new
+TurnsDebugger {S} m old handled new = (read : Standing S) × ReadsWhatComes m old handled read × MayCountWhere m handled read new
 
 -- ---- a round
 
@@ -145,6 +155,10 @@ FailsToMove (ended.Standstill waits) = ⊥
 -- it did, behind others
 abbrev pub EndsQuietly : {S : Type 0} → Meaning S → PairEnded → Link S → Link S → Type 0
 EndsQuietly m how old new = FailsToMove how × Moves m old new
+
+-- how asking a count may: memory was wanting before it was asked, or behind it
+abbrev pub StopsCounting : {S : Type 0} → Meaning S → Order → Link S → Link S → Type 0
+StopsCounting {S} m order old new = (counted : Link S) × MayCount m order old counted × Stays m counted new
 
 -- how an event may
 abbrev pub EndsAt : {S : Type 0} → Meaning S → Events.LinkEvent → PairEnded → Link S → Link S → Type 0

@@ -4,16 +4,18 @@ ghost use Rattle.jdwp_debugger.specs.RefusedNumbers.{refused_number};
 ghost use Rattle.jdwp_pair.specs.declared.asking.Unread.TheVariants as unread;
 ghost use Rattle.jdwp_pair.specs.Connections.{disconnects};
 ghost use Rattle.jdwp_pair.specs.Events.{refusal_in};
+ghost use Rattle.jdwp_pair.specs.Followers.{KeepsUp};
 ghost use Rattle.jdwp_pair.specs.Lines.{AsksFor, EndsAsking, command_by};
 
 use crate::connection::Connection;
 use crate::ended::PairEnded;
+use crate::following::ask_too;
 use crate::happening::happen;
-use jdwp_debugger::{Command, Refused};
+use jdwp_debugger::{Command, Debugger, Refused};
 use jdwp_layout::{layout_of, read};
 use jdwp_link::{Link, LinkEvent, Outcome};
 use jdwp_machine::Machine;
-use jdwp_wire::{DataFault, IdSizes};
+use jdwp_wire::{DataFault, IdSizes, NoMemory};
 use std::alloc::{AllocError, Global};
 
 /// Why a line is no command.
@@ -41,7 +43,7 @@ pub(crate) struct Asked<'a> {
     pub data: &'a [u8],
 }
 
-/// Asks the command of the line at this place, counted from 1.
+/// Asks the command of the line at this place, counted from 1, of the follower and of the link's debugger.
 ///
 /// # Errors
 /// `RefusedLine` with the place and the number of the refusal: 36 where the data do not read by the layout of the request, else that of the
@@ -50,6 +52,7 @@ pub(crate) fn ask_line<M: Machine + Drop, C: Connection>(
     alloc: Global,
     link: &mut Link<M>,
     connection: &mut C,
+    follower: &mut Option<Debugger>,
     place: usize,
     asked: Asked<'_>,
 ) -> Result<(), PairEnded>
@@ -60,6 +63,7 @@ pub(crate) fn ask_line<M: Machine + Drop, C: Connection>(
     ensures ends { IfErr result (λ ended.
         EndsAsking M.meaning (command_by link.old.debugger.sizes asked.entry.set asked.entry.number
         asked.entry.data.now) place ended link.old link.new) }
+    ensures follows { OnOk result (KeepsUp M.meaning link.old follower.old link.new follower.new) }
     ensures failed { is_some (C.failed_by connection.new) ≡ disconnects result }
 {
     let (set, number) = (asked.set, asked.number);
@@ -68,6 +72,10 @@ pub(crate) fn ask_line<M: Machine + Drop, C: Connection>(
         Err(Unread::NoMemory) => return Err(PairEnded::NoMemory),
         Err(Unread::BadData) => return Err(refused_at(place, Refused::BadCommand)),
     };
+    match ask_too(alloc, follower, &command) {
+        Ok(()) => {}
+        Err(NoMemory) => return Err(PairEnded::NoMemory),
+    }
     let outcomes = happen(link, connection, LinkEvent::Ask(command))?;
     match refusal_in(&outcomes) {
         Some(refused) => Err(refused_at(place, refused)),
@@ -119,7 +127,7 @@ fn command_of(
 }
 
 /// The first refusal that is told of.
-fn refusal_in(outcomes: &[Outcome]) -> Option<Refused>
+pub(crate) fn refusal_in(outcomes: &[Outcome]) -> Option<Refused>
     ensures { result ≡ refusal_in outcomes.now }
 {
     match outcomes {

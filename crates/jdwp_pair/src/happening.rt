@@ -5,11 +5,14 @@ ghost use Rattle.jdwp_link.specs.Clauses.{Ran};
 ghost use Rattle.jdwp_link.specs.Told.{event_meaning};
 ghost use Rattle.jdwp_pair.specs.Connections.{disconnects};
 ghost use Rattle.jdwp_pair.specs.Events.{Happens, IsQuiet, Quietly};
+ghost use Rattle.jdwp_pair.specs.Followers.{KeepsUp};
 ghost use Rattle.jdwp_pair.specs.Rounds.{EndsAt, EndsQuietly};
 
 use crate::connection::Connection;
 use crate::ended::PairEnded;
-use crate::standing::may_begin;
+use crate::following::attach_where;
+use crate::standing::{is_debugger_open, may_begin};
+use jdwp_debugger::Debugger;
 use jdwp_link::{Link, LinkEvent, Outcome};
 use jdwp_machine::Machine;
 
@@ -72,11 +75,32 @@ pub(crate) fn set_deferring<M: Machine + Drop>(link: &mut Link<M>, deferring: bo
     }
 }
 
-/// A session begins, where it may: on a new connection.
+/// A session begins, where it may: on a new connection. Where it began, one begins at the follower.
 ///
 /// # Errors
 /// `LostConnection` where the connection failed.
 pub(crate) fn attach<M: Machine + Drop, C: Connection>(
+    link: &mut Link<M>,
+    connection: &mut C,
+    follower: &mut Option<Debugger>,
+) -> Result<(), PairEnded>
+    ensures attaches { Happens M.meaning events.Attach link.old link.new }
+    ensures ends { IfErr result (λ ended. ended ≡ PairEnded.LostConnection) }
+    ensures follows { KeepsUp M.meaning link.old follower.old link.new follower.new }
+    ensures failed { is_some (C.failed_by connection.new) ≡ disconnects result }
+{
+    let before = is_debugger_open(link);
+    let begun = begin(link, connection);
+    let behind = is_debugger_open(link);
+    attach_where(before, behind, follower);
+    begun
+}
+
+/// It begins.
+///
+/// # Errors
+/// Those of `attach`.
+fn begin<M: Machine + Drop, C: Connection>(
     link: &mut Link<M>,
     connection: &mut C,
 ) -> Result<(), PairEnded>

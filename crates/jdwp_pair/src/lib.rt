@@ -4,7 +4,9 @@
 mod asking;
 mod connection;
 mod ended;
+mod following;
 mod happening;
+mod laws;
 mod lines;
 mod loopback;
 mod losing;
@@ -17,5 +19,6 @@ mod telling;
 
 pub use connection::Connection;
 pub use ended::PairEnded;
+pub use laws::takes_what_the_first_takes;
 pub use loopback::Loopback;
 pub use pairing::{pair, pair_script, pair_session};

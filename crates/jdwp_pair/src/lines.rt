@@ -3,6 +3,7 @@ ghost use Rattle.std.specs.Prelude.{◌≡◌, ◌&&◌, false, IfErr, IfOk, OnO
 ghost use Rattle.jdwp_debugger.specs.Debuggers.{has_tickets};
 ghost use Rattle.jdwp_pair.specs.Calls.{at};
 ghost use Rattle.jdwp_pair.specs.Connections.{disconnects};
+ghost use Rattle.jdwp_pair.specs.Followers.{Followed};
 ghost use Rattle.jdwp_pair.specs.Lines.{CarriesOut, EndsAtNext, EndsLine, TakesLine, counted_behind, is_due};
 
 use crate::asking::{Asked, ask_line};
@@ -12,7 +13,7 @@ use crate::happening::attach;
 use crate::losing::{lose_debugger, lose_target};
 use crate::run::Run;
 use crate::standing::{awaits_answers, may_begin};
-use crate::telling::tell_mirror;
+use crate::telling::tell_known;
 use jdwp_debugger::Debugger;
 use jdwp_link::Link;
 use jdwp_machine::Machine;
@@ -33,11 +34,14 @@ pub(crate) fn next_line<M: Machine + Drop, C: Connection, W: Pipe>(
     out: &mut W,
     run: &mut Run,
 ) -> Result<bool, PairEnded>
-    requires { is_some (C.failed_by connection.old) ≡ false }
+    requires works { is_some (C.failed_by connection.old) ≡ false }
+    requires followed { Followed M.meaning run.old.order link.old run.old.follower }
     ensures takes { IfOk result (λ taken. TakesLine M.meaning plan.now
         (at link.old run.old (W.story out.old)) taken (at link.new run.new (W.story out.new))) }
     ensures ends { IfErr result (λ ended. EndsAtNext M.meaning plan.now ended
         (at link.old run.old (W.story out.old)) link.new (W.story out.new)) }
+    ensures followed { OnOk result
+        (Followed M.meaning run.new.order link.new run.new.follower) }
     ensures failed { is_some (C.failed_by connection.new) ≡ disconnects result }
 {
     if !run.begun || run.carried >= plan.len() {
@@ -84,15 +88,19 @@ fn carry_out<M: Machine + Drop, C: Connection, W: Pipe>(
     run: &mut Run,
     place: usize,
 ) -> Result<(), PairEnded>
-    requires { is_some (C.failed_by connection.old) ≡ false }
-    ensures carries { OnOk result (CarriesOut M.meaning line.now link.old (W.story out.old) link.new
-        (W.story out.new)) }
-    ensures ends { IfErr result (λ ended. EndsLine M.meaning line.now place ended link.old
+    requires works { is_some (C.failed_by connection.old) ≡ false }
+    requires followed { Followed M.meaning run.old.order link.old run.old.follower }
+    ensures carries { OnOk result (CarriesOut M.meaning run.old.order line.now link.old
         (W.story out.old) link.new (W.story out.new)) }
+    ensures ends { IfErr result (λ ended. EndsLine M.meaning run.old.order line.now place ended
+        link.old (W.story out.old) link.new (W.story out.new)) }
     ensures counts { OnOk result (run.new ≡ record run.old {
       composites = counted_behind line.now
           run.old.composites;
+      follower = run.new.follower;
     }) }
+    ensures followed { OnOk result
+        (Followed M.meaning run.new.order link.new run.new.follower) }
     ensures failed { is_some (C.failed_by connection.new) ≡ disconnects result }
 {
     match line {
@@ -102,13 +110,13 @@ fn carry_out<M: Machine + Drop, C: Connection, W: Pipe>(
                 number: *number,
                 data,
             };
-            ask_line(alloc, link, connection, place, asked)
+            ask_line(alloc, link, connection, &mut run.follower, place, asked)
         }
         PlanLine::Answers | PlanLine::Events(_) => Ok(()),
-        PlanLine::Mirror => tell_mirror(alloc, link.debugger(), out),
+        PlanLine::Mirror => tell_known(alloc, link, &run.follower, out),
         PlanLine::LoseTarget => lose_target(link, connection),
-        PlanLine::LoseDebugger => lose_debugger(alloc, link, connection, out),
-        PlanLine::Attach => match attach(link, connection) {
+        PlanLine::LoseDebugger => { lose_debugger(alloc, link, connection, &mut run.follower, out) }
+        PlanLine::Attach => match attach(link, connection, &mut run.follower) {
             Ok(()) => {
                 run.composites = 0;
                 Ok(())

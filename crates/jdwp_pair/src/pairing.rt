@@ -9,15 +9,18 @@ ghost use Rattle.jdwp_link.specs.declared.events.Outcome as declared;
 ghost use Rattle.jdwp_link.specs.Clauses.{HoldsSuspended, Ran};
 ghost use Rattle.jdwp_link.specs.Links.{new_link};
 ghost use Rattle.jdwp_debuggee.specs.State.{new_state};
+ghost use Rattle.jdwp_debugger.specs.declared.order.Order.TheVariants as orders;
 ghost use Rattle.jdwp_pipe.specs.Story.{Story};
 ghost use Rattle.jdwp_pair.specs.Calls.{at};
 ghost use Rattle.jdwp_pair.specs.Connections.{disconnects, is_disconnected};
 ghost use Rattle.jdwp_pair.specs.Events.{Happens};
+ghost use Rattle.jdwp_pair.specs.Followers.{Followed};
 ghost use Rattle.jdwp_pair.specs.PlanRuns.{Ends, PairsBy, PairsNew, PairsNewBy, RunsPlan, unflushed_end};
 ghost use Rattle.jdwp_pair.specs.Rounds.{EndsQuietly, EndsRound, IsRound, RunsMachine};
 
 use crate::connection::Connection;
 use crate::ended::PairEnded;
+use crate::following::follower_of;
 use crate::happening::{attach, set_deferring};
 use crate::lines::{is_finished, next_line};
 use crate::losing::lose_both;
@@ -25,7 +28,7 @@ use crate::parts::{run_debugger, run_target};
 use crate::run::Run;
 use crate::stepping::release_or_step;
 use jdwp_debuggee::Settings;
-use jdwp_debugger::Debugger;
+use jdwp_debugger::{Debugger, Order};
 use jdwp_link::Link;
 use jdwp_machine::Machine;
 use jdwp_pipe::{Pipe, flush_all};
@@ -36,8 +39,7 @@ use jdwp_wire::NoMemory;
 use std::alloc::Global;
 
 /// Runs a new target over the machine of this script and a new debugger by the plan for at most so many rounds, as `pair` does. As many
-/// threads may live at the beginning as the limits of the settings have live threads. Where `defer` says so the target defers the replies to
-/// commands of the sets ReferenceType and Method, at most 16 at a time, in each session.
+/// threads may live at the beginning as the limits of the settings have live threads. `defer` and `order` are those of `pair_session`.
 ///
 /// # Errors
 /// The first fault of the script, or `NoMemory` where an allocation was refused; and then nothing was printed.
@@ -46,6 +48,7 @@ pub fn pair_script<C: Connection, W: Pipe>(
     script: &str,
     settings: Settings,
     defer: bool,
+    order: Order,
     connection: &mut C,
     plan: &[PlanLine],
     out: &mut W,
@@ -53,7 +56,7 @@ pub fn pair_script<C: Connection, W: Pipe>(
 ) -> Result<PairEnded, ScriptFault>
     ensures paired { IfOk result (λ ended. (machine : State)
         × (read_machine settings.limits.live script.now ≡ Ok machine)
-        × PairsNewBy script_meaning settings defer machine plan.now rounds ended (W.story out.old)
+        × PairsNewBy script_meaning settings defer order machine plan.now rounds ended (W.story out.old)
         (W.story out.new)) }
     ensures failed { IfOk result (λ ended. is_some (C.failed_by connection.new)
         ≡ is_disconnected ended) }
@@ -63,7 +66,7 @@ pub fn pair_script<C: Connection, W: Pipe>(
 {
     let machine = ScriptMachine::read_with(alloc, script, &settings.limits())?;
     let ended = pair_session(
-        alloc, machine, settings, defer, connection, plan, out, rounds,
+        alloc, machine, settings, defer, order, connection, plan, out, rounds,
     )?;
     Ok(ended)
 }
@@ -72,6 +75,10 @@ pub fn pair_script<C: Connection, W: Pipe>(
 /// `settings.limits().live()` live threads. Where `defer` says so the target defers the replies to commands of the sets ReferenceType and
 /// Method, at most 16 at a time, in each session.
 ///
+/// In the order `Apart` the plan is run as at a target that sends replies and composites by threads of its own: a second debugger, of that
+/// order, is asked what the link's is asked and reads what that one reads; `mirror` prints what is surely so by that, and where a composite
+/// suspends its thread and leaves it unsure, its suspend count is asked of both behind that turn, unless the debugger refuses it.
+///
 /// # Errors
 /// `NoMemory`, and then nothing was printed.
 pub fn pair_session<M: Machine + Drop, C: Connection, W: Pipe>(
@@ -79,21 +86,26 @@ pub fn pair_session<M: Machine + Drop, C: Connection, W: Pipe>(
     machine: M,
     settings: Settings,
     defer: bool,
+    order: Order,
     connection: &mut C,
     plan: &[PlanLine],
     out: &mut W,
     rounds: u32,
 ) -> Result<PairEnded, NoMemory>
     requires { LivesWithin M.meaning settings.limits machine }
-    ensures paired { IfOk result (PairsNew M.meaning settings defer machine plan.now) }
-    ensures by_rounds { IfOk result (λ ended. PairsNewBy M.meaning settings defer machine plan.now
+    ensures paired { IfOk result (PairsNew M.meaning settings defer order machine plan.now) }
+    ensures by_rounds { IfOk result (λ ended. PairsNewBy M.meaning settings defer order machine plan.now
         rounds ended (W.story out.old) (W.story out.new)) }
     ensures failed { IfOk result (λ ended. is_some (C.failed_by connection.new)
         ≡ is_disconnected ended) }
     ensures unprinted { OnErr result (out.new ≡ out.old) }
 {
+    let follower = follower_of(alloc, order, settings.limits())?;
     let mut link = link_over(alloc, machine, settings, defer)?;
-    Ok(pair(alloc, &mut link, connection, plan, out, u64::from(rounds)))
+    let rounds = u64::from(rounds);
+    Ok(pair_in(
+        alloc, &mut link, order, follower, connection, plan, out, rounds,
+    ))
 }
 
 /// A new link over this machine, on the heap: where a function holds one itself, each part of it is proved to be let go there. It defers or not.
@@ -147,14 +159,36 @@ pub fn pair<M: Machine + Drop, C: Connection, W: Pipe>(
     out: &mut W,
     rounds: u64,
 ) -> PairEnded
-    ensures by_plan { PairsBy M.meaning plan.now rounds link.old (W.story out.old) link.new result
+    ensures by_plan { PairsBy M.meaning orders.One plan.now rounds link.old (W.story out.old)
+        link.new result (W.story out.new) }
+    ensures held { HoldsSuspended link.new }
+    ensures ran { (later : List events.LinkEvent) × (outcomes : List declared.Outcome)
+        × Ran M.meaning (events.Attach ∷ later) link.old link.new outcomes }
+    ensures failed { is_some (C.failed_by connection.new) ≡ is_disconnected result }
+{
+    pair_in(alloc, link, Order::One, None, connection, plan, out, rounds)
+}
+
+/// The same, where the debugger takes the target to send in this order, and there is a follower in `Apart`, which followed it so far.
+fn pair_in<M: Machine + Drop, C: Connection, W: Pipe>(
+    alloc: Global,
+    link: &mut Link<M>,
+    order: Order,
+    follower: Option<Debugger>,
+    connection: &mut C,
+    plan: &[PlanLine],
+    out: &mut W,
+    rounds: u64,
+) -> PairEnded
+    requires { Followed M.meaning order link.old follower }
+    ensures by_plan { PairsBy M.meaning order plan.now rounds link.old (W.story out.old) link.new result
         (W.story out.new) }
     ensures held { HoldsSuspended link.new }
     ensures ran { (later : List events.LinkEvent) × (outcomes : List declared.Outcome)
         × Ran M.meaning (events.Attach ∷ later) link.old link.new outcomes }
     ensures failed { is_some (C.failed_by connection.new) ≡ is_disconnected result }
 {
-    let ended = run_plan(alloc, link, connection, plan, out, rounds);
+    let ended = run_plan(alloc, link, order, follower, connection, plan, out, rounds);
     link.session();
     if flush_all(out) {
         ended
@@ -181,12 +215,15 @@ fn unflushed(ended: PairEnded) -> PairEnded
 fn run_plan<M: Machine + Drop, C: Connection, W: Pipe>(
     alloc: Global,
     link: &mut Link<M>,
+    order: Order,
+    follower: Option<Debugger>,
     connection: &mut C,
     plan: &[PlanLine],
     out: &mut W,
     rounds: u64,
 ) -> PairEnded
-    ensures runs { RunsPlan M.meaning plan.now rounds result link.old (W.story out.old) link.new
+    requires { Followed M.meaning order link.old follower }
+    ensures runs { RunsPlan M.meaning order plan.now rounds result link.old (W.story out.old) link.new
         (W.story out.new) }
     ensures failed { is_some (C.failed_by connection.new) ≡ is_disconnected result }
 {
@@ -194,8 +231,10 @@ fn run_plan<M: Machine + Drop, C: Connection, W: Pipe>(
         carried: 0,
         begun: false,
         composites: 0,
+        order,
+        follower,
     };
-    match attach(link, connection) {
+    match attach(link, connection, &mut run.follower) {
         Ok(()) => run_rounds(alloc, link, connection, plan, out, &mut run, rounds),
         Err(ended) => ended,
     }
@@ -211,7 +250,8 @@ fn run_rounds<M: Machine + Drop, C: Connection, W: Pipe>(
     run: &mut Run,
     rounds: u64,
 ) -> PairEnded
-    requires { is_some (C.failed_by connection.old) ≡ false }
+    requires works { is_some (C.failed_by connection.old) ≡ false }
+    requires followed { Followed M.meaning run.old.order link.old run.old.follower }
     ensures ends { Ends M.meaning plan.now rounds result (at link.old run.old (W.story out.old))
         link.new (W.story out.new) }
     ensures failed { is_some (C.failed_by connection.new) ≡ is_disconnected result }
@@ -226,7 +266,7 @@ fn run_rounds<M: Machine + Drop, C: Connection, W: Pipe>(
             Err(ended) => return ended,
         }
         if is_finished(link.debugger(), plan, run) {
-            return lose_both(alloc, link, connection, out);
+            return lose_both(alloc, link, connection, &mut run.follower, out);
         }
     }
     PairEnded::TurnLimit
@@ -244,11 +284,14 @@ fn round<M: Machine + Drop, C: Connection, W: Pipe>(
     out: &mut W,
     run: &mut Run,
 ) -> Result<bool, PairEnded>
-    requires { is_some (C.failed_by connection.old) ≡ false }
+    requires works { is_some (C.failed_by connection.old) ≡ false }
+    requires followed { Followed M.meaning run.old.order link.old run.old.follower }
     ensures round { IfOk result (λ happened. IsRound M.meaning plan.now
         (at link.old run.old (W.story out.old)) happened (at link.new run.new (W.story out.new))) }
     ensures ends { IfErr result (λ ended. EndsRound M.meaning plan.now ended
         (at link.old run.old (W.story out.old)) link.new (W.story out.new)) }
+    ensures followed { OnOk result
+        (Followed M.meaning run.new.order link.new run.new.follower) }
     ensures failed { is_some (C.failed_by connection.new) ≡ disconnects result }
 {
     let carried = match next_line(alloc, link, connection, plan, out, run) {

@@ -1,5 +1,7 @@
 //! What a run keeps between events.
 
+use jdwp_debugger::{Debugger, Order};
+
 /// What a run keeps between events.
 #[derive(Drop)]
 pub(crate) struct Run {
@@ -9,4 +11,8 @@ pub(crate) struct Run {
     pub begun: bool,
     /// How many composites were read in the session.
     pub composites: u64,
+    /// In which order the target is taken to send replies and composites.
+    pub order: Order,
+    /// The debugger beside that of the link, where the order is `Apart`.
+    pub follower: Option<Debugger>,
 }

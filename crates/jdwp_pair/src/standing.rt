@@ -1,6 +1,7 @@
 //! How a link stands.
 ghost use Rattle.std.specs.Prelude.{◌≡◌};
 ghost use Rattle.jdwp_debugger.specs.Debuggers.{has_tickets};
+ghost use Rattle.jdwp_end.specs.Ends.{is_open};
 ghost use Rattle.jdwp_port.specs.Served.{lives};
 ghost use Rattle.jdwp_pair.specs.Lines.{may_begin};
 
@@ -15,6 +16,13 @@ pub(crate) fn may_begin<M: Machine + Drop>(link: &Link<M>) -> bool
 {
     let (target, debugger) = (link.target(), link.debugger());
     !target.is_open() && !debugger.is_open() && !awaits_answers(debugger) && lives(target)
+}
+
+/// Whether the link's debugger is in a session.
+pub(crate) fn is_debugger_open<M: Machine + Drop>(link: &Link<M>) -> bool
+    ensures { result ≡ is_open link.now.debugger.end }
+{
+    link.debugger().is_open()
 }
 
 /// Whether a command waits for its answer.

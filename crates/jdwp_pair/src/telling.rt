@@ -1,17 +1,20 @@
 //! What is told of what the debugger read.
 ghost use Rattle.std.specs.Prelude.{◌≡◌, ◌++◌, IfErr, IfOk, OnOk};
 ghost use Rattle.std.specs.String.{string_bytes};
+ghost use Rattle.jdwp_debugger.specs.declared.order.Order as orders;
 ghost use Rattle.jdwp_pipe.specs.Story.{with_written};
-ghost use Rattle.jdwp_tell.specs.Telling.{TellsMirror, widths_line};
+ghost use Rattle.jdwp_tell.specs.Telling.{widths_line};
 ghost use Rattle.jdwp_pair.specs.Events.{is_seen, seen_in};
-ghost use Rattle.jdwp_pair.specs.Lines.{FailsToTellMirror, PrintsMirror};
+ghost use Rattle.jdwp_pair.specs.Followers.{Followed};
+ghost use Rattle.jdwp_pair.specs.Lines.{FailsToTellKnown, PrintsKnown, TellsBy};
 ghost use Rattle.jdwp_pair.specs.Telling.{FailsToTell, heads_text, lost_line, lost_text, told_line, turn_text, untold_line};
 
 use crate::ended::PairEnded;
-use jdwp_debugger::{Debugger, Head};
-use jdwp_link::Outcome;
+use jdwp_debugger::{Debugger, Head, Mirror};
+use jdwp_link::{Link, Outcome};
+use jdwp_machine::Machine;
 use jdwp_pipe::{Pipe, write_all};
-use jdwp_tell::{answered_line, hello_line, mirror_text, seen_line, sizes_line};
+use jdwp_tell::{answered_line, hello_line, known_text, mirror_text, seen_line, sizes_line};
 use jdwp_wire::{IdSizes, NoMemory};
 use std::alloc::Global;
 
@@ -79,23 +82,53 @@ pub(crate) fn tell_lost<W: Pipe>(
     }
 }
 
-/// Prints what the debugger knows.
+/// Prints what the debugger knows, or the follower, where there is one.
 ///
 /// # Errors
 /// `LostByWrite` where a write failed; `NoMemory` where an allocation was refused, and then nothing was printed.
-pub(crate) fn tell_mirror<W: Pipe>(
+pub(crate) fn tell_known<M: Machine + Drop, W: Pipe>(
     alloc: Global,
-    debugger: &Debugger,
+    link: &Link<M>,
+    follower: &Option<Debugger>,
     out: &mut W,
 ) -> Result<(), PairEnded>
-    ensures tells { OnOk result (PrintsMirror debugger.now (W.story out.old) (W.story out.new)) }
-    ensures ends { IfErr result (λ ended. FailsToTellMirror debugger.now ended
-        (W.story out.old) (W.story out.new)) }
+    ensures tells { OnOk result ((order : orders.Order)
+        → Followed M.meaning order link.now follower.now
+        → PrintsKnown M.meaning order link.now (W.story out.old) (W.story out.new)) }
+    ensures ends { IfErr result (λ ended. (order : orders.Order)
+        → Followed M.meaning order link.now follower.now
+        → FailsToTellKnown M.meaning order link.now ended (W.story out.old) (W.story out.new)) }
 {
-    match mirror_text(alloc, debugger.mirror()) {
-        Ok(text) => print(out, &text),
+    match what_is_known(alloc, link, follower) {
+        Ok(text) => print(out, text.as_str()),
         Err(NoMemory) => Err(PairEnded::NoMemory),
     }
+}
+
+/// What is told of what the debugger knows, or the follower, where there is one.
+///
+/// # Errors
+/// `NoMemory` where an allocation was refused.
+fn what_is_known<M: Machine + Drop>(
+    alloc: Global,
+    link: &Link<M>,
+    follower: &Option<Debugger>,
+) -> Result<String, NoMemory>
+    ensures { IfOk result (λ text. (order : orders.Order)
+        → Followed M.meaning order link.now follower.now
+        → TellsBy M.meaning order link.now (string_bytes text)) }
+{
+    match follower {
+        None => mirror_text(alloc, mirror_of(link)),
+        Some(debugger) => known_text(alloc, debugger),
+    }
+}
+
+/// The mirror of a link's debugger.
+fn mirror_of<M: Machine + Drop>(link: &Link<M>) -> &Mirror
+    ensures { result.now ≡ link.now.debugger.mirror }
+{
+    link.debugger().mirror()
 }
 
 /// Prints a text.

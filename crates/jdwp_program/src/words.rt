@@ -72,7 +72,7 @@ pub struct Attach<'a> {
     pub turns: u32,
 }
 
-/// `pair MACHINE PLAN [--memory] [--start all|none] [--limits L] [--defer] [--turns N]`.
+/// `pair MACHINE PLAN [--memory] [--order one|apart] [--start all|none] [--limits L] [--defer] [--turns N]`.
 #[derive(Clone, Copy, Debug, PartialEq, Eq)]
 pub struct Pair<'a> {
     /// The file of the machine's script.
@@ -81,6 +81,8 @@ pub struct Pair<'a> {
     pub plan: &'a str,
     /// What is between both ends.
     pub between: Between,
+    /// In which order the debugger takes the target to send replies and events.
+    pub order: Order,
     /// Whether every thread is suspended when the target starts, and the limits of both ends.
     pub settings: Settings,
     /// Whether the target defers the replies to commands of the sets ReferenceType and Method.

@@ -123,10 +123,11 @@ static OF_ATTACH: [Part; 7] = [
     Part::Turns("How many turns the session has at most"),
 ];
 
-static OF_PAIR: [Part; 7] = [
+static OF_PAIR: [Part; 8] = [
     Part::Machine,
     Part::Plan("As of `attach`, and lines `lose target`, `lose debugger` and `attach`"),
     Part::Memory,
+    Part::Order,
     Part::Start,
     Part::Limits,
     Part::Defer,
@@ -289,21 +290,17 @@ fn read_attach<'a>(alloc: Global, found: &ArgMatches<'a>) -> Result<Attach<'a>, 
     Ok(Attach {
         plan: value(alloc, found, "plan")?,
         peer: read_peer(alloc, found, Name::Attach)?,
-        order: read_order(alloc, found)?,
+        order: read_order(alloc, found, Name::Attach)?,
         limits: read_limits(alloc, found, Name::Attach)?,
         turns: number(alloc, found, "turns", Name::Attach)?,
     })
 }
 
-/// In which order the target of `attach` sends.
-fn read_order<'a>(alloc: Global, found: &ArgMatches<'a>) -> Result<Order, Fault<'a>> {
+/// In which order the target sends that a command of this name has a session with.
+fn read_order<'a>(alloc: Global, found: &ArgMatches<'a>, of: Name) -> Result<Order, Fault<'a>> {
     match order(value(alloc, found, "order")?) {
         Some(order) => Ok(order),
-        None => Err(bad_words(
-            alloc,
-            named_in_full(alloc, Name::Attach),
-            "the options don't read",
-        )),
+        None => Err(bad_words(alloc, named_in_full(alloc, of), "the options don't read")),
     }
 }
 
@@ -314,6 +311,7 @@ fn read_pair<'a>(alloc: Global, found: &ArgMatches<'a>) -> Result<Pair<'a>, Faul
         machine: value(alloc, found, "machine")?,
         plan: value(alloc, found, "plan")?,
         between: read_between(found),
+        order: read_order(alloc, found, Name::Pair)?,
         turns: number(alloc, found, "turns", Name::Pair)?,
     })
 }

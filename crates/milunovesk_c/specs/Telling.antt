@@ -1,5 +1,5 @@
 -- What the turns of a debugger told, as C asks for it, and how bytes are handed out.
-use Rattle.std.specs.Prelude.{◌≡◌, ◌⊎◌, ℕ, zero, ◌++◌, Bool, true, false, List, drop, length, nat_le, slice_get, Option, Some, None, IsSome, option_map, Result, Ok, Err}
+use Rattle.std.specs.Prelude.{◌≡◌, ◌≢◌, ◌⊎◌, ℕ, [], zero, ◌++◌, Bool, true, false, List, drop, length, nat_le, slice_get, Option, Some, None, IsSome, option_map, Result, Ok, Err}
 use Rattle.jdwp_wire.specs.Widths.{Widths}
 use Rattle.jdwp_wire.specs.FaultNumbers as frames
 use Rattle.jdwp_layout.specs.declared.answer.Answer.TheVariants.{Data, Error}
@@ -11,6 +11,7 @@ use Rattle.jdwp_debugger.specs.declared.faults.DebuggerFault.TheVariants as code
 use Rattle.jdwp_debugger.specs.declared.turning.Read.TheVariants as read
 use Rattle.jdwp_debugger.specs.FaultNumbers.{fault_number}
 use Rattle.jdwp_debugger.specs.DebuggerTurns.{MayTakeMemory, Told, Nothing, Hello, Parked, Sizes, Answered, Seen, TurnsAt, read_meaning}
+use Rattle.jdwp_tell.specs.Telling.{turn_lines}
 use Rattle.milunovesk_c.specs.declared.heard.Heard.{Heard}
 use Rattle.milunovesk_c.specs.declared.seat.Seat.{Seat}
 use Rattle.milunovesk_c.specs.Numbers.{DONE, NO_MEMORY, SHORT_BUFFER, FAULT, NO_ITEM}
@@ -116,3 +117,13 @@ IsUnwritten found result old new needed = IsSome found × ((result ≡ NO_MEMORY
 
 abbrev pub IsGiven : Option (List ℕ) → ℕ → List ℕ → List ℕ → ℕ → Type 0
 IsGiven found result old new needed = Finds found result old new needed ⊎ IsUnwritten found result old new needed
+
+-- ---- the lines of what was told
+
+-- as they stand among those of a capture, each with its newline
+abbrev pub seat_lines : Seat → List ℕ
+seat_lines s = turn_lines (read_meaning s.read) s.debugger.last s.widths
+
+-- They are handed out, or memory was refused where there are any.
+abbrev pub IsLined : List ℕ → ℕ → List ℕ → List ℕ → ℕ → Type 0
+IsLined lines result old new needed = IsCopied lines result old new needed ⊎ ((result ≡ NO_MEMORY) × (lines ≢ []) × (new ≡ old) × (needed ≡ 0))

@@ -10,7 +10,7 @@ ghost use Rattle.milunovesk_c.specs.Handles.{holds};
 use crate::kept::Kept;
 use crate::loose::Loose;
 use std::alloc::Global;
-use std::marker::Model;
+use std::marker::{Model, Send};
 
 /// A place that C owns: all zero, or as the last call that it was passed to left it.
 #[repr(C)]
@@ -24,6 +24,9 @@ pub struct Handle {
 impl Model for Handle {
     ghost also_owns = { λ h. holds (ghosts.dealloc_token h.alloc) the_row h.live h.at h.value };
 }
+
+/// What a handle keeps is its own, to the last byte, so it may go to any thread.
+unsafe impl Send for Handle {}
 
 impl Handle {
     pub(crate) fn none(at: *mut u8, alloc: Global) -> Handle

@@ -20,6 +20,7 @@ mod handled;
 mod heard;
 mod judged;
 mod kept;
+mod lining;
 mod loose;
 mod naming;
 mod seat;
@@ -40,6 +41,7 @@ pub use handled::Handled;
 pub use heard::Heard;
 pub use judged::Judged;
 use kept::Kept;
+pub use lining::mv_debugger_lines;
 pub use naming::{mv_command_name, mv_error_name, mv_fault_text};
 use std::alloc::Global;
 pub use targeting::{

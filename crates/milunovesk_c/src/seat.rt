@@ -1,11 +1,13 @@
 //! A debugger, and beside it what its last turn told.
-ghost use Rattle.std.specs.Prelude.{◌≡◌, ◌+◌, IfOk, IfErr};
+ghost use Rattle.std.specs.Prelude.{◌≡◌, ◌≢◌, ◌+◌, [], IfOk, IfErr, OnErr};
+ghost use Rattle.std.specs.String.{string_bytes};
 ghost use Rattle.milunovesk_c.specs.Askings.{AsksBytes, RefusesBytes, command_in};
 ghost use Rattle.milunovesk_c.specs.Seats.{new_seat_in};
-ghost use Rattle.milunovesk_c.specs.Telling.{SeatTurns, known_widths};
+ghost use Rattle.milunovesk_c.specs.Telling.{SeatTurns, known_widths, seat_lines};
 
 use jdwp_debugger::{Command, Debugger, DebuggerFault, Order, Read, Refused, Ticket};
 use jdwp_layout::layout_of;
+use jdwp_tell::turn_text;
 use jdwp_wire::{DataFault, IdSizes, Limits, NoMemory};
 use std::alloc::Global;
 
@@ -57,6 +59,17 @@ impl Seat {
                 Err(fault)
             }
         }
+    }
+
+    /// The lines of what the last turn told.
+    ///
+    /// # Errors
+    /// `NoMemory` where an allocation was refused, and there are any.
+    pub(crate) fn lines(&self, alloc: Global) -> Result<String, NoMemory>
+        ensures text { IfOk result (λ text. string_bytes text ≡ seat_lines self.now) }
+        ensures memory { OnErr result (seat_lines self.now ≢ []) }
+    {
+        turn_text(alloc, self.debugger.last(), &self.read, self.widths)
     }
 
     /// Asks the command whose data these bytes are.

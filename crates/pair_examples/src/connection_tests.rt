@@ -3,6 +3,7 @@ ghost use Rattle.std.specs.Prelude.{◌≡◌, is_some, true, refl};
 
 use crate::asserts::{expect_same, expect_same_for};
 use crate::runs::{READY, Writer, run_script, run_text, standard};
+use jdwp_debugger::Order;
 use jdwp_link::{Memory, Side, Way};
 use jdwp_pair::{Connection, Loopback, PairEnded};
 use jdwp_plan::{PlanLine, read_plan};
@@ -257,6 +258,7 @@ fn long_answers_pass_a_connection(rt: HostRuntime) {
         &script,
         settings,
         false,
+        Order::One,
         &plan,
         writer,
         100,

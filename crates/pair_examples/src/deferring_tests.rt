@@ -103,7 +103,7 @@ const STEPPED: Case = Case {
 };
 
 /// The round that releases the command makes no step.
-static RELEASED: [Case; 4] = [
+pub(crate) static RELEASED: [Case; 4] = [
     STEPPED,
     Case {
         defer: true,

@@ -2,6 +2,8 @@
 #![tactic(auto)]
 
 #[cfg(test)]
+mod apart_tests;
+#[cfg(test)]
 mod asserts;
 #[cfg(test)]
 mod connection_tests;
@@ -11,5 +13,7 @@ mod deferring_tests;
 mod loss_tests;
 #[cfg(test)]
 mod pair_tests;
+#[cfg(test)]
+mod random_plans;
 #[cfg(test)]
 mod runs;

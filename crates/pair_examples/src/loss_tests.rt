@@ -33,7 +33,7 @@ fn nobody_is_suspended_behind_a_loss(rt: HostRuntime) {
 }
 
 /// Runs behind losses that are done.
-static DONE: [Case; 5] = [
+pub(crate) static DONE: [Case; 5] = [
     // The end of a plan loses what was lost before.
     Case {
         plan: "lose debugger\nlose target\nlose target\nlose debugger\nmirror",
@@ -124,7 +124,7 @@ ask 1 6
 ];
 
 /// Runs behind losses that end otherwise.
-static UNDONE: [Case; 6] = [
+pub(crate) static UNDONE: [Case; 6] = [
     // A command is refused at a debugger that is in no session.
     Case {
         plan: "lose debugger\nask 1 8",

@@ -3,6 +3,7 @@ use crate::asserts::expect_same;
 use crate::runs::{CASE, Case, READY, Writer, passes, passes_over, run_script, run_text};
 use example_parts::MACHINE_A;
 use jdwp_debuggee::Settings;
+use jdwp_debugger::Order;
 use jdwp_link::Memory;
 use jdwp_pair::{Connection, Loopback, PairEnded};
 use jdwp_plan::read_plan;
@@ -18,7 +19,7 @@ mirror
 ";
 
 /// The run in full: thread 1 steps twice, and thread 2 ends.
-const WHOLE: Case = Case {
+pub(crate) const WHOLE: Case = Case {
     plan: BREAKPOINT,
     lines: "< hello
 < 1 Event.Composite 2 [(90, 0, #1)]
@@ -39,7 +40,7 @@ fn a_breakpoint_is_reached(rt: HostRuntime) {
 }
 
 /// Runs that are done.
-static DONE: [Case; 8] = [
+pub(crate) static DONE: [Case; 8] = [
     Case {
         lines: READY,
         ..CASE
@@ -121,7 +122,7 @@ thread 1 1 held
 ];
 
 /// Commands that are refused, at their lines.
-static REFUSED: [Case; 4] = [
+pub(crate) static REFUSED: [Case; 4] = [
     // a command that no target has
     Case {
         plan: "ask 1 8\nask 1 99\nanswers",
@@ -173,7 +174,7 @@ thread 1 1 held
 ];
 
 /// Runs whose rounds are used, and runs in which nothing happens any more.
-static LIMITED: [Case; 6] = [
+pub(crate) static LIMITED: [Case; 6] = [
     Case {
         rounds: 0,
         ended: PairEnded::TurnLimit,
@@ -358,6 +359,7 @@ fn run_within(rt: &impl Abort, alloc: Global, limits: Limits) -> (PairEnded, Vec
         MACHINE_A,
         settings,
         false,
+        Order::One,
         &plan,
         writer,
         1000,

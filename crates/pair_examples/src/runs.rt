@@ -2,6 +2,7 @@
 use crate::asserts::expect_same_for;
 use example_parts::MACHINE_A;
 use jdwp_debuggee::Settings;
+use jdwp_debugger::Order;
 use jdwp_link::Memory;
 use jdwp_pair::{Connection, PairEnded, pair_script};
 use jdwp_pipe::Streams;
@@ -24,6 +25,8 @@ pub(crate) struct Case {
     pub start_all: bool,
     /// Whether the target defers replies.
     pub defer: bool,
+    /// In which order the debugger takes it to send.
+    pub order: Order,
     pub plan: &'static str,
     pub rounds: u32,
     /// Which write fails, from 1; 0 for none.
@@ -34,10 +37,11 @@ pub(crate) struct Case {
     pub lines: &'static str,
 }
 
-/// All threads begin suspended, no reply is deferred, there are rounds enough, and no write fails.
+/// All threads begin suspended, no reply is deferred, each packet is sent as the target acts, there are rounds enough, and no write fails.
 pub(crate) const CASE: Case = Case {
     start_all: true,
     defer: false,
+    order: Order::One,
     plan: "",
     rounds: 1000,
     write_fails: 0,
@@ -100,13 +104,14 @@ pub(crate) fn run_script<C: Connection>(
     script: &str,
     settings: Settings,
     defer: bool,
+    order: Order,
     plan: &[PlanLine],
     writer: Writer,
     rounds: u32,
 ) -> (PairEnded, Vec<u8>) {
     let mut out: Streams<Empty, Writer> = Streams::new(io::empty(), writer);
     let ended = pair_script(
-        alloc, script, settings, defer, connection, plan, &mut out, rounds,
+        alloc, script, settings, defer, order, connection, plan, &mut out, rounds,
     )
     .expect(rt, "a script that is read");
     let (_, writer) = out.into_parts();
@@ -126,7 +131,16 @@ pub(crate) fn run_text<C: Connection>(
     let settings = standard(rt, start_all);
     let plan = read_plan(alloc, plan).expect(rt, "a plan");
     run_script(
-        rt, alloc, connection, MACHINE_A, settings, false, &plan, writer, rounds,
+        rt,
+        alloc,
+        connection,
+        MACHINE_A,
+        settings,
+        false,
+        Order::One,
+        &plan,
+        writer,
+        rounds,
     )
 }
 
@@ -142,13 +156,23 @@ pub(crate) fn passes_over<C: Connection>(
     connection: &mut C,
     case: &Case,
 ) {
+    let (ended, lines) = run_case(rt, alloc, connection, case);
+    expect_same_for(rt, &ended, &case.ended, &case.plan);
+    expect_same_for(rt, &lines.as_slice(), &case.lines.as_bytes(), &case.plan);
+}
+
+/// How the run of a case ends over this connection, and what it prints.
+pub(crate) fn run_case<C: Connection>(
+    rt: &impl Abort,
+    alloc: Global,
+    connection: &mut C,
+    case: &Case,
+) -> (PairEnded, Vec<u8>) {
     let settings = standard(rt, case.start_all);
     let plan = read_plan(alloc, case.plan).expect(rt, "a plan");
     let writer = Writer::failing(alloc, case.write_fails, case.flush_fails);
-    let (defer, rounds) = (case.defer, case.rounds);
-    let (ended, lines) = run_script(
-        rt, alloc, connection, MACHINE_A, settings, defer, &plan, writer, rounds,
-    );
-    expect_same_for(rt, &ended, &case.ended, &case.plan);
-    expect_same_for(rt, &lines.as_slice(), &case.lines.as_bytes(), &case.plan);
+    let (defer, order, rounds) = (case.defer, case.order, case.rounds);
+    run_script(
+        rt, alloc, connection, MACHINE_A, settings, defer, order, &plan, writer, rounds,
+    )
 }

@@ -9,6 +9,8 @@ mod asserts;
 #[cfg(test)]
 mod attaching_tests;
 #[cfg(test)]
+mod cutting_tests;
+#[cfg(test)]
 mod plan_tests;
 #[cfg(test)]
 mod port_tests;

@@ -6,7 +6,7 @@
 ghost use Rattle.std.specs.Prelude.{◌≡◌, List, ℕ, [], ◌∷◌, ◌++◌};
 ghost use Rattle.std.specs.Borrow.{ftrue};
 
-use std::marker::{Model, PhantomData};
+use std::marker::{Model, PhantomData, Send};
 
 /// A history of values, one at a time.
 #[derive(Drop)]
@@ -18,6 +18,9 @@ pub struct Trace<T> {
 impl<T> Model for Trace<T> {
     ghost also_owns = { λ _. ftrue };
 }
+
+/// A trace owns nothing, so it may go to any thread.
+unsafe impl<T> Send for Trace<T> {}
 
 impl<T> Trace<T> {
     /// The empty history.
@@ -47,6 +50,9 @@ pub struct History {
 impl Model for History {
     ghost also_owns = { λ _. ftrue };
 }
+
+/// A history owns nothing, so it may go to any thread.
+unsafe impl Send for History {}
 
 impl History {
     /// The empty history.

@@ -2,6 +2,7 @@ use Rattle.std.proofs.Common.{◌≡◌, ◌||◌, inl, inr, is_some, ap, subst,
 use Rattle.jdwp_debugger.specs.Debuggers.{Debugger}
 use Rattle.jdwp_pair.specs.declared.run.Run.{Run}
 use Rattle.jdwp_pair.specs.Calls.{at}
+use Rattle.jdwp_pair.proofs.Keeping.{machine-aside}
 use Rattle.jdwp_pair.proofs.Leading.{ends-behind, leads-moved, machine-moves, moving-ends}
 use Rattle.jdwp_pair.proofs.pairing.round.Goals as goal
 
@@ -64,3 +65,7 @@ returns-else-moved-clause-round g c =
           ap (λ (r : Run). at c.run_debugger.new.link r out)
           (subst (λ (d : Debugger). c.begin_where_known.new.run ≡ record c.run_debugger.new.run { begun = c.run_debugger.new.run.begun || is_some d.sizes }) c.debugger.ensures c.begin_where_known.ensures);
     }
+
+pub run_debugger-requires-clause-followed : goal.run_debugger-requires-clause-followed
+run_debugger-requires-clause-followed g c =
+    machine-aside g.M.Machine.meaning c.next_line.new.link c.run_machine.new.link c.in-Ok-run_machine.moved c.in-Ok-run_machine.ensures.runs c.next_line.new.run.order c.next_line.new.run.follower c.in-Ok.ensures.followed

@@ -7,7 +7,7 @@ use Rattle.jdwp_pair.proofs.Planned.{ends-finished, ends-round}
 use Rattle.jdwp_pair.proofs.pairing.run_rounds.Goals as goal
 
 pub loop-done-init : goal.loop-done-init
-loop-done-init g c = record { rounds = NoRound; works = c.requires }
+loop-done-init g c = record { rounds = NoRound; followed = c.requires.followed; works = c.requires.works }
 
 pub loop-done-preserved : goal.loop-done-preserved
 loop-done-preserved g c =
@@ -18,6 +18,7 @@ loop-done-preserved g c =
           Another c.loop-done._done (at c.loop-done.link c.loop-done.run (story c.loop-done.out)) (at c.round.new.link run (story c.round.new.out)) c.loop-done.invariant.rounds
           (subst (λ (b : Bool). IsRound g.M.Machine.meaning c.args.plan.now (at c.loop-done.link c.loop-done.run (story c.loop-done.out)) b (at c.round.new.link c.round.new.run (story c.round.new.out))) c.in-Ok-true.field-0-test c.in-Ok-true.ensures.round)
           (subst (λ (d : Debugger). (run.begun && (nat_le (length c.args.plan.now) run.carried && not (has_tickets d.pending))) ≡ false) c.debugger.ensures (sym c.is_finished.ensures ∙ c.if-is_finished.false));
+      followed = c.in-Ok-true.ensures.followed;
       works = search rules;
     }
 

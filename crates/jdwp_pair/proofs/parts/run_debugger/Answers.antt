@@ -5,7 +5,7 @@ use Rattle.jdwp_pair.proofs.Leading.{ends-behind, once-more, repeats-lead, until
 use Rattle.jdwp_pair.proofs.parts.run_debugger.Goals as goal
 
 pub loop-done-init : goal.loop-done-init
-loop-done-init g c = record { repeats = NotYet; handled = refl; works = c.requires }
+loop-done-init g c = record { repeats = NotYet; handled = refl; followed = c.requires.followed; works = c.requires.works }
 
 pub loop-done-preserved : goal.loop-done-preserved
 loop-done-preserved g c =
@@ -15,6 +15,7 @@ loop-done-preserved g c =
           OneMore c.loop-done._done (at c.loop-done.link c.loop-done.run (story c.loop-done.out)) (at c.turn_debugger.new.link c.turn_debugger.new.run (story c.turn_debugger.new.out)) c.loop-done.invariant.repeats
           (subst (λ (b : Bool). TurnsDebugger g.M.Machine.meaning (at c.loop-done.link c.loop-done.run (story c.loop-done.out)) b (at c.turn_debugger.new.link c.turn_debugger.new.run (story c.turn_debugger.new.out))) c.in-Ok-true.field-0-test c.in-Ok-true.ensures.turns);
       handled = once-more c.loop-done._done;
+      followed = c.in-Ok-true.ensures.followed;
       works = search rules;
     }
 

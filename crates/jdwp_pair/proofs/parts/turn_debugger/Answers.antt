@@ -1,73 +1,46 @@
-use Rattle.std.proofs.Common.{◌≡◌, ◌+◌, true, false, List, refl, subst, sym, ap, ◌∙◌, rules}
-use Rattle.jdwp_debugger.specs.Debuggers.{Debugger}
-use Rattle.jdwp_link.specs.declared.events.Outcome.{Outcome}
-use Rattle.jdwp_pipe.specs.Story.{with_written}
+use Rattle.std.proofs.Common.{◌≡◌, Bool, true, false, subst, sym, refl, rules}
+use Rattle.jdwp_debugger.specs.declared.order.Order.{Order}
 use Rattle.jdwp_pair.specs.Calls.{at}
-use Rattle.jdwp_pair.specs.Events.{counted, seen_in}
-use Rattle.jdwp_pair.specs.Telling.{FailsToTell, turn_text}
-use Rattle.jdwp_pair.proofs.Leading.{come-to-debugger-moves, leads-moved, moving-ends, read-so, telling-ends, turning-ends}
+use Rattle.jdwp_pair.specs.Followers.{Followed}
+use Rattle.jdwp_pair.specs.Rounds.{ReadsWhatComes}
+use Rattle.jdwp_pair.proofs.Keeping.{counting-ends}
+use Rattle.jdwp_pair.proofs.Leading.{reads-lead}
 use Rattle.jdwp_pair.proofs.parts.turn_debugger.Goals as goal
 
-pub returns-in-Err-clause-ends : goal.returns-in-Err-clause-ends
-returns-in-Err-clause-ends g c =
-    moving-ends g.M.Machine.meaning c.in-Err.ended (at c.args.link.now c.args.run.now (g.W.Pipe.story c.args.out.now)) c.deliver_to_debugger.new.link c.in-Err.ensures.ends
+pub returns-then-not-handled-clause-turns : goal.returns-then-not-handled-clause-turns
+returns-then-not-handled-clause-turns g c =
+    let story = g.W.Pipe.story in
+    let none : c.in-Ok.turned.handled ≡ false = search rules in
+    let read = at c.read_turn.new.link c.read_turn.new.run (story c.read_turn.new.out) in
+    (read, subst (λ (b : Bool). ReadsWhatComes g.M.Machine.meaning (at c.args.link.now c.args.run.now (story c.args.out.now)) b read) none c.in-Ok.ensures.turns, refl)
 
-pub returns-in-Err-happen-clause-ends : goal.returns-in-Err-happen-clause-ends
-returns-in-Err-happen-clause-ends g c =
+pub returns-then-not-handled-clause-followed : goal.returns-then-not-handled-clause-followed
+returns-then-not-handled-clause-followed g c =
+    subst (λ (o : Order). Followed g.M.Machine.meaning o c.read_turn.new.link c.read_turn.new.run.follower) (sym c.read_turn.ensures.order) (c.in-Ok.ensures.follows c.args.run.now.order c.requires.followed)
+
+pub returns-in-Ok-ask_due-clause-turns : goal.returns-in-Ok-ask_due-clause-turns
+returns-in-Ok-ask_due-clause-turns g c =
     let m = g.M.Machine.meaning in
-    let fed = c.deliver_to_debugger.new.link in
-    turning-ends m c.in-Err-happen.ended (at c.args.link.now c.args.run.now (g.W.Pipe.story c.args.out.now)) fed c.happen.new.link (come-to-debugger-moves m c.args.link.now fed c.in-Ok.ensures.comes) c.in-Err-happen.ensures.ends
-
-pub returns-then-not-did-clause-turns : goal.returns-then-not-did-clause-turns
-returns-then-not-did-clause-turns g c = (c.deliver_to_debugger.new.link, c.in-Ok.ensures.comes, ((c.in-Ok-happen.outcomes.items, c.in-Ok-happen.ensures.ok), search rules, refl))
-
-pub returns-in-Err-tell_turn-clause-ends : goal.returns-in-Err-tell_turn-clause-ends
-returns-in-Err-tell_turn-clause-ends g c =
-    let m = g.M.Machine.meaning in
-    let fed = c.deliver_to_debugger.new.link in
-    let before = g.W.Pipe.story c.args.out.now in
-    let after = g.W.Pipe.story c.tell_turn.new.out in
-    let told = c.in-Ok-happen.outcomes.items in
-    telling-ends m c.in-Err-tell_turn.ended (at c.args.link.now c.args.run.now before) fed c.happen.new.link told after (come-to-debugger-moves m c.args.link.now fed c.in-Ok.ensures.comes) c.in-Ok-happen.ensures.ok
-    (subst (λ (d : Debugger). FailsToTell (turn_text d told) c.in-Err-tell_turn.ended before after) c.debugger-2.ensures
-    (subst (λ (os : List Outcome). FailsToTell (turn_text c.debugger-2.result.now os) c.in-Err-tell_turn.ended before after) c.deref.ensures.value c.in-Err-tell_turn.ensures.ends))
-
-pub returns-then-not-is_open-clause-ends : goal.returns-then-not-is_open-clause-ends
-returns-then-not-is_open-clause-ends g c =
-    let m = g.M.Machine.meaning in
-    let fed = c.deliver_to_debugger.new.link in
-    let before = g.W.Pipe.story c.args.out.now in
-    let after = g.W.Pipe.story c.tell_turn.new.out in
-    let told = c.in-Ok-happen.outcomes.items in (
-      at fed c.args.run.now before,
-      leads-moved m (at c.args.link.now c.args.run.now before) fed (come-to-debugger-moves m c.args.link.now fed c.in-Ok.ensures.comes),
-      (
-        search rules,
-        (
-          told,
-          c.in-Ok-happen.ensures.ok,
-          search rules,
-          subst (λ (d : Debugger). after ≡ with_written (turn_text d told) before) c.debugger-2.ensures
-              (subst (λ (os : List Outcome). after ≡ with_written (turn_text c.debugger-2.result.now os) before) c.deref.ensures.value c.in-Ok-tell_turn.ensures.tells),
-        ),
-      ),
+    let story = g.W.Pipe.story in
+    let some : c.in-Ok.turned.handled ≡ true = search rules in
+    let read = at c.read_turn.new.link c.read_turn.new.run (story c.read_turn.new.out) in
+    let followed = subst (λ (o : Order). Followed m o c.read_turn.new.link c.read_turn.new.run.follower) (sym c.read_turn.ensures.order) (c.in-Ok.ensures.follows c.args.run.now.order c.requires.followed) in (
+      read,
+      subst (λ (b : Bool). ReadsWhatComes m (at c.args.link.now c.args.run.now (story c.args.out.now)) b read) some c.in-Ok.ensures.turns,
+      (c.ask_due.new.link, c.in-Ok-ask_due.ensures.counts c.read_turn.new.run.order followed, refl),
     )
 
-pub returns-clause-turns : goal.returns-clause-turns
-returns-clause-turns g c =
-    let fed = c.deliver_to_debugger.new.link in
-    let before = g.W.Pipe.story c.args.out.now in
-    let after = g.W.Pipe.story c.tell_turn.new.out in
-    let told = c.in-Ok-happen.outcomes.items in (
-      fed,
-      c.in-Ok.ensures.comes,
-      (
-        told,
-        c.in-Ok-happen.ensures.ok,
-        search rules,
-        read-so told c.happen.new.link (at fed c.args.run.now before) c.saturating_add-run.result after
-            (c.saturating_add-run.ensures ∙ ap (λ n. counted (c.args.run.now.composites + n)) (subst (λ (os : List Outcome). c.seen_in.result ≡ seen_in os) c.deref-2.ensures.value c.seen_in.ensures))
-            (subst (λ (d : Debugger). after ≡ with_written (turn_text d told) before) c.debugger-2.ensures
-            (subst (λ (os : List Outcome). after ≡ with_written (turn_text c.debugger-2.result.now os) before) c.deref.ensures.value c.in-Ok-tell_turn.ensures.tells)),
-      ),
-    )
+pub returns-in-Ok-ask_due-clause-followed : goal.returns-in-Ok-ask_due-clause-followed
+returns-in-Ok-ask_due-clause-followed g c =
+    let m = g.M.Machine.meaning in
+    let followed = subst (λ (o : Order). Followed m o c.read_turn.new.link c.read_turn.new.run.follower) (sym c.read_turn.ensures.order) (c.in-Ok.ensures.follows c.args.run.now.order c.requires.followed) in
+    c.in-Ok-ask_due.ensures.follows c.read_turn.new.run.order followed
+
+pub returns-in-Err-ask_due-clause-ends : goal.returns-in-Err-ask_due-clause-ends
+returns-in-Err-ask_due-clause-ends g c =
+    let m = g.M.Machine.meaning in
+    let story = g.W.Pipe.story in
+    let old = at c.args.link.now c.args.run.now (story c.args.out.now) in
+    let read = at c.read_turn.new.link c.read_turn.new.run (story c.read_turn.new.out) in
+    let followed = subst (λ (o : Order). Followed m o c.read_turn.new.link c.read_turn.new.run.follower) (sym c.read_turn.ensures.order) (c.in-Ok.ensures.follows c.args.run.now.order c.requires.followed) in
+    counting-ends m old read c.ask_due.new.link (reads-lead m old read c.in-Ok.turned.handled c.in-Ok.ensures.turns) (c.in-Err-ask_due.ensures.stops c.read_turn.new.run.order followed)

@@ -1,4 +1,4 @@
-use Rattle.std.proofs.Common.{◌||◌, false, ℕ, Bool, List, Option, Some, None, subst, sym, ap, ◌∙◌, rules}
+use Rattle.std.proofs.Common.{◌≡◌, ◌||◌, true, false, ℕ, Bool, List, Option, Some, None, refl, subst, sym, ap, ◌∙◌, rules}
 use Rattle.jdwp_value.specs.declared.id.ObjectId.{ObjectId}
 use Rattle.jdwp_model.specs.Events as events
 use Rattle.jdwp_target.specs.Targets.{Target}

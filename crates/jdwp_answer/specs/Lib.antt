@@ -1,0 +1,5 @@
+pub mod Objects
+pub mod Shaped
+pub mod ShapedLaws
+pub mod Table
+pub mod Tables

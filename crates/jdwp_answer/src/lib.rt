@@ -1,0 +1,24 @@
+//! What commands are answered, as structs of named fields (JDWP specification, "Protocol Details").
+#![tactic(auto)]
+
+mod fields;
+mod lists;
+mod method;
+mod reference_type;
+mod reply;
+mod table;
+mod thread_reference;
+mod values;
+mod virtual_machine;
+
+pub use fields::{Listed, Record};
+pub use lists::Children;
+pub use method::{
+    GenericVariable, GenericVariableTable, LineEntry, LineTable, VariableEntry, VariableTable,
+};
+pub use reference_type::{
+    FieldEntry, GenericField, GenericMethod, MethodEntry, Signatures, TaggedType,
+};
+pub use reply::Reply;
+pub use thread_reference::{FrameEntry, ThreadStatus};
+pub use virtual_machine::{ClassEntry, GenericClass, NamedClass, SizesOfIds, Version};

@@ -1,0 +1,280 @@
+//! What commands of the set Method are answered (JDWP specification, "Method").
+ghost use Rattle.std.specs.Prelude.{[], ◌∷◌, refl, map};
+ghost use Rattle.jdwp_layout.specs.Shapes.{OneOf, ListOf, Fields};
+ghost use Rattle.jdwp_layout.specs.declared.item.Field.TheVariants as held;
+ghost use Rattle.jdwp_layout.specs.Meanings.{One, Many, Int, Long, entry_meanings, meanings};
+ghost use Rattle.jdwp_answer.specs.Shaped.{Converted, IsCountAndList, IsRangeAndList};
+ghost use Rattle.jdwp_answer.specs.ShapedLaws.{all_have};
+ghost use Rattle.jdwp_answer.specs.Tables.{line_kinds, line_fields, line_table, variable_kinds, variable_fields, variable_table, generic_variable_kinds, generic_variable_fields, generic_variable_table};
+
+use crate::fields::{Record, entries_of, text_of};
+use crate::reply::Reply;
+use crate::table::reply_of;
+use jdwp_layout::numbers::{LINE_TABLE, METHOD, VARIABLE_TABLE, VARIABLE_TABLE_WITH_GENERIC};
+use jdwp_layout::{Datum, Layout, Scalar};
+use jdwp_wire::NoMemory;
+use std::alloc::Global;
+
+/// What LineTable is answered.
+#[derive(Debug, PartialEq, Drop)]
+pub struct LineTable {
+    /// The first code index of the method; -1 for a native method.
+    pub start: i64,
+    /// The last code index of the method; -1 for a native method.
+    pub end: i64,
+    /// The lines.
+    pub lines: Vec<LineEntry>,
+}
+
+impl Reply for LineTable {
+    ghost shape = { line_table };
+
+    ghost says = { λ t. One (Long t.start) ∷ One (Long t.end)
+        ∷ Many (map line_fields t.lines.items) ∷ [] };
+
+    fn layout() -> &'static Layout {
+        reply_of(METHOD, LINE_TABLE)
+    }
+
+    fn of_items(alloc: Global, items: Vec<Datum>) -> Result<Option<LineTable>, NoMemory> {
+        let Some((start, end, entries)) = range_and_list(items) else {
+            return Ok(None);
+        };
+        match entries_of(alloc, entries)? {
+            Some(lines) => Ok(Some(LineTable { start, end, lines })),
+            None => Ok(None),
+        }
+    }
+
+    ghost fits = { λ t. (refl, (refl, (all_have line_kinds line_fields (λ _. refl) t.lines.items, tt))) };
+}
+
+/// A line of a line table: where its code begins.
+#[derive(Clone, Copy, Debug, PartialEq, Eq)]
+pub struct LineEntry {
+    /// The code index at which it begins.
+    pub code_index: i64,
+    /// The number of the line.
+    pub line: i32,
+}
+
+impl Record for LineEntry {
+    ghost kinds = { line_kinds };
+
+    ghost fields = { line_fields };
+
+    fn of_fields(_alloc: Global, scalars: Vec<Scalar>) -> Option<LineEntry> {
+        match scalars.as_slice() {
+            [Scalar::Long(code_index), Scalar::Int(line)] => Some(LineEntry {
+                code_index: *code_index,
+                line: *line,
+            }),
+            _ => None,
+        }
+    }
+
+    ghost has = { λ l. refl };
+}
+
+/// What VariableTable is answered.
+#[derive(Debug, PartialEq, Drop)]
+pub struct VariableTable {
+    /// How many words of the frame its arguments take, `this` among them.
+    pub arg_count: i32,
+    /// The variables.
+    pub slots: Vec<VariableEntry>,
+}
+
+impl Reply for VariableTable {
+    ghost shape = { variable_table };
+
+    ghost says = { λ t. One (Int t.arg_count) ∷ Many (map variable_fields t.slots.items) ∷ [] };
+
+    fn layout() -> &'static Layout {
+        reply_of(METHOD, VARIABLE_TABLE)
+    }
+
+    fn of_items(alloc: Global, items: Vec<Datum>) -> Result<Option<VariableTable>, NoMemory> {
+        let Some((arg_count, entries)) = count_and_list(items) else {
+            return Ok(None);
+        };
+        match entries_of(alloc, entries)? {
+            Some(slots) => Ok(Some(VariableTable { arg_count, slots })),
+            None => Ok(None),
+        }
+    }
+
+    ghost fits = { λ t. (refl, (all_have variable_kinds variable_fields (λ _. refl) t.slots.items, tt)) };
+}
+
+/// A local variable, in what VariableTable is answered.
+#[derive(Debug, PartialEq, Drop)]
+pub struct VariableEntry {
+    /// The first code index at which it is valid.
+    pub code_index: i64,
+    /// Its name.
+    pub name: String,
+    /// The JNI signature.
+    pub signature: String,
+    /// For how many code indexes it is valid.
+    pub length: i32,
+    /// Its slot in the frame.
+    pub slot: i32,
+}
+
+impl Record for VariableEntry {
+    ghost kinds = { variable_kinds };
+
+    ghost fields = { variable_fields };
+
+    fn of_fields(_alloc: Global, scalars: Vec<Scalar>) -> Option<VariableEntry> {
+        let Ok(scalars) = <[Scalar; 5]>::try_from(scalars) else {
+            return None;
+        };
+        let [code_index, name, signature, length, slot] = scalars;
+        let Scalar::Long(code_index) = code_index else {
+            return None;
+        };
+        let Scalar::Int(length) = length else {
+            return None;
+        };
+        let Scalar::Int(slot) = slot else {
+            return None;
+        };
+        let name = text_of(name)?;
+        let signature = text_of(signature)?;
+        Some(VariableEntry {
+            code_index,
+            name,
+            signature,
+            length,
+            slot,
+        })
+    }
+
+    ghost has = { λ v. refl };
+}
+
+/// What VariableTableWithGeneric is answered.
+#[derive(Debug, PartialEq, Drop)]
+pub struct GenericVariableTable {
+    /// How many words of the frame its arguments take, `this` among them.
+    pub arg_count: i32,
+    /// The variables.
+    pub slots: Vec<GenericVariable>,
+}
+
+impl Reply for GenericVariableTable {
+    ghost shape = { generic_variable_table };
+
+    ghost says = { λ t. One (Int t.arg_count) ∷ Many (map generic_variable_fields t.slots.items) ∷ [] };
+
+    fn layout() -> &'static Layout {
+        reply_of(METHOD, VARIABLE_TABLE_WITH_GENERIC)
+    }
+
+    fn of_items(
+        alloc: Global,
+        items: Vec<Datum>,
+    ) -> Result<Option<GenericVariableTable>, NoMemory> {
+        let Some((arg_count, entries)) = count_and_list(items) else {
+            return Ok(None);
+        };
+        match entries_of(alloc, entries)? {
+            Some(slots) => Ok(Some(GenericVariableTable { arg_count, slots })),
+            None => Ok(None),
+        }
+    }
+
+    ghost fits = { λ t. (refl, (all_have generic_variable_kinds generic_variable_fields (λ _. refl) t.slots.items, tt)) };
+}
+
+/// A local variable, in what VariableTableWithGeneric is answered.
+#[derive(Debug, PartialEq, Drop)]
+pub struct GenericVariable {
+    /// The first code index at which it is valid.
+    pub code_index: i64,
+    /// Its name.
+    pub name: String,
+    /// The JNI signature.
+    pub signature: String,
+    /// The generic signature; empty where there is none.
+    pub generic_signature: String,
+    /// For how many code indexes it is valid.
+    pub length: i32,
+    /// Its slot in the frame.
+    pub slot: i32,
+}
+
+impl Record for GenericVariable {
+    ghost kinds = { generic_variable_kinds };
+
+    ghost fields = { generic_variable_fields };
+
+    fn of_fields(_alloc: Global, scalars: Vec<Scalar>) -> Option<GenericVariable> {
+        let Ok(scalars) = <[Scalar; 6]>::try_from(scalars) else {
+            return None;
+        };
+        let [code_index, name, signature, generic_signature, length, slot] = scalars;
+        let Scalar::Long(code_index) = code_index else {
+            return None;
+        };
+        let Scalar::Int(length) = length else {
+            return None;
+        };
+        let Scalar::Int(slot) = slot else {
+            return None;
+        };
+        let name = text_of(name)?;
+        let signature = text_of(signature)?;
+        let generic_signature = text_of(generic_signature)?;
+        Some(GenericVariable {
+            code_index,
+            name,
+            signature,
+            generic_signature,
+            length,
+            slot,
+        })
+    }
+
+    ghost has = { λ v. refl };
+}
+
+/// The two longs and the list that data are; None where they are something else.
+#[tactic(auto, using(std::proofs::lemmas::Grind::common_steps))]
+fn range_and_list(mut items: Vec<Datum>) -> Option<(i64, i64, Vec<Vec<Scalar>>)>
+    ensures { Converted
+        (λ p. One (Long p.0) ∷ One (Long p.1) ∷ Many (entry_meanings p.2.items) ∷ [])
+        IsRangeAndList (meanings items.items) result }
+{
+    let [
+        Datum::One(Scalar::Long(start)),
+        Datum::One(Scalar::Long(end)),
+        Datum::Many(_),
+    ] = items.as_slice()
+    else {
+        return None;
+    };
+    let (start, end) = (*start, *end);
+    match items.pop() {
+        Some(Datum::Many(entries)) => Some((start, end, entries)),
+        _ => unreachable!(),
+    }
+}
+
+/// The int and the list that data are; None where they are something else.
+#[tactic(auto, using(std::proofs::lemmas::Grind::common_steps))]
+fn count_and_list(mut items: Vec<Datum>) -> Option<(i32, Vec<Vec<Scalar>>)>
+    ensures { Converted (λ p. One (Int p.0) ∷ Many (entry_meanings p.1.items) ∷ [])
+        IsCountAndList (meanings items.items) result }
+{
+    let [Datum::One(Scalar::Int(count)), Datum::Many(_)] = items.as_slice() else {
+        return None;
+    };
+    let count = *count;
+    match items.pop() {
+        Some(Datum::Many(entries)) => Some((count, entries)),
+        _ => unreachable!(),
+    }
+}

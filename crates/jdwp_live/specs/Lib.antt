@@ -1,0 +1,2 @@
+pub mod LiveNext
+pub mod LiveRounds

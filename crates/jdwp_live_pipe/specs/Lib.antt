@@ -1,0 +1,3 @@
+pub mod LiveMoving
+pub mod LiveStory
+pub mod LiveStreams

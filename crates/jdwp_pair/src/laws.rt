@@ -1,0 +1,8 @@
+//! What holds of the debugger that follows that of a link: the function is a theorem, and does nothing.
+ghost use Rattle.jdwp_pair.specs.Followers.{TakesNoLess};
+
+/// A debugger of a target that sends replies and events by threads of its own takes each packet that one takes whose target sends each packet
+/// as it acts, where both read it by the same widths of ids, composites that wait and commands that wait; and it says the same to both.
+pub fn takes_what_the_first_takes()
+    ensures { TakesNoLess }
+{}
