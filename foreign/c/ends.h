@@ -10,7 +10,7 @@
 #include <string.h>
 
 /* The file, whole. The caller frees it. */
-static uint8_t *read_file(const char *path, size_t *length) {
+static inline uint8_t *read_file(const char *path, size_t *length) {
     FILE *file = fopen(path, "rb");
     if (file == NULL) {
         perror(path);
@@ -26,7 +26,7 @@ static uint8_t *read_file(const char *path, size_t *length) {
 }
 
 /* Moves what waits at either end to the other. True where something moved. */
-static bool carry(mv_handle *debugger, mv_handle *target) {
+static inline bool carry(mv_handle *debugger, mv_handle *target) {
     uint8_t bytes[4096];
     size_t taken = 0, fed = 0, sent = 0, got = 0;
     assert(mv_debugger_take(debugger, bytes, sizeof bytes, &taken) == MV_DONE);

@@ -41,6 +41,8 @@ static void expect(mv_handle *d, const uint8_t *bytes, size_t length) {
     size_t needed = 0;
     DO(mv_debugger_data(d, 0, out, sizeof out, &needed));
     assert(needed == length && memcmp(out, bytes, length) == 0);
+    DO(mv_debugger_lines(d, out, sizeof out, &needed));
+    assert(needed > 0 && out[needed - 1] == '\n');
 }
 
 static void run(const uint8_t *json, size_t json_length, const uint8_t *capture, size_t capture_length) {

@@ -41,6 +41,7 @@ static void test_empty(mv_handle h) {
     assert(mv_debugger_ask(&h, 1, 1, bytes, 0, &number, &refused) == MV_EMPTY && number == 0);
     assert(mv_debugger_turn(&h, &heard) == MV_EMPTY);
     assert(mv_debugger_data(&h, 0, bytes, 8, &a) == MV_EMPTY && bytes[7] == 7);
+    assert(mv_debugger_lines(&h, bytes, 8, &a) == MV_EMPTY && bytes[0] == 7 && a == 0);
     assert(mv_debugger_widths(&h, &yes, &widths) == MV_EMPTY);
     assert(mv_debugger_thread(&h, 1, &yes, &count, &also) == MV_EMPTY);
     assert(mv_debugger_unanswered(&h, 0, &asked) == MV_EMPTY);
@@ -81,6 +82,7 @@ static void test_kinds(void) {
     assert(mv_target_feed(&d, bytes, 1, &a) == MV_OTHER_KIND && a == 0);
     assert(mv_debugger_turn(&t, &heard) == MV_OTHER_KIND);
     assert(mv_debugger_data(&t, 0, bytes, 8, &a) == MV_OTHER_KIND && bytes[0] == 7);
+    assert(mv_debugger_lines(&t, bytes, 8, &a) == MV_OTHER_KIND && bytes[0] == 7);
     mv_free(&t);
     mv_free(&d);
     mv_free(&d);
@@ -229,6 +231,19 @@ static void expect_data(mv_handle *d, size_t item, const uint8_t *bytes, size_t 
     assert(needed == length && memcmp(out, bytes, length) == 0 && out[length] == 7);
 }
 
+/* The lines of the last turn are these, asked for with too little room first. */
+static void expect_lines(mv_handle *d, const char *lines) {
+    uint8_t out[256];
+    size_t needed = 0, length = strlen(lines);
+    memset(out, 7, sizeof out);
+    if (length > 0) {
+        assert(mv_debugger_lines(d, out, length - 1, &needed) == MV_SHORT_BUFFER);
+        assert(needed == length && out[0] == 7);
+    }
+    assert(mv_debugger_lines(d, out, sizeof out, &needed) == MV_DONE);
+    assert(needed == length && memcmp(out, lines, length) == 0 && out[length] == 7);
+}
+
 static uint64_t ask(mv_handle *d, uint8_t set, uint8_t number, const uint8_t *data, size_t length) {
     uint64_t ticket = 0;
     uint16_t refused = 9;
@@ -254,6 +269,7 @@ static void test_session(void) {
     /* VM_START of thread 1, which suspends all */
     const uint8_t start[] = {2, 0, 0, 0, 1, 90, 0, 0, 0, 0, 0, 0, 0, 0, 0, 0, 0, 1};
     expect_data(&d, 0, start, sizeof start);
+    expect_lines(&d, "< 1 Event.Composite 2 [(90, 0, #1)]\n< 1 reply VirtualMachine.IDSizes 0 8 8 8 8 8\n");
     assert(mv_debugger_data(&d, 1, out, sizeof out, &a) == MV_NO_ITEM && a == 0);
     assert(mv_debugger_thread(&d, 1, &yes, &count, &held) == MV_DONE && yes && count == 1 && held);
     assert(mv_target_live(&t, 0, &yes, &thread) == MV_DONE && yes && thread == 1);
@@ -287,6 +303,7 @@ static void test_session(void) {
     assert(heard.kind == MV_HEARD_SEEN && heard.items == 1);
     const uint8_t reached[] = {2, 0, 0, 0, 1, 2, 0, 0, 0, 1, 0, 0, 0, 0, 0, 0, 0, 1, 1, 0, 0, 0, 0, 0, 0, 0, 10, 0, 0, 0, 0, 0, 0, 0, 20, 0, 0, 0, 0, 0, 0, 0, 3};
     expect_data(&d, 0, reached, sizeof reached);
+    expect_lines(&d, "< 2 Event.Composite 2 [(2, 1, #1, 1:#10:#20:3)]\n");
     assert(mv_debugger_thread(&d, 1, &yes, &count, &held) == MV_DONE && yes && count == 1 && held);
     /* ThreadReference.Frames of thread 1, all of them: frame 30 at 1:10:20:3 */
     const uint8_t all[] = {0, 0, 0, 0, 0, 0, 0, 1, 0, 0, 0, 0, 255, 255, 255, 255};
@@ -295,6 +312,7 @@ static void test_session(void) {
     heard = hear(&d, &t);
     assert(heard.kind == MV_HEARD_ANSWERED && heard.ticket == 3);
     expect_data(&d, 0, frames, sizeof frames);
+    expect_lines(&d, "< 4 reply ThreadReference.Frames 0 [(#30, 1:#10:#20:3)]\n");
     /* of thread 9, which is none: INVALID_THREAD, 10 */
     uint8_t other[sizeof all];
     memcpy(other, all, sizeof all);
@@ -303,6 +321,9 @@ static void test_session(void) {
     heard = hear(&d, &t);
     assert(heard.kind == MV_HEARD_ANSWERED && heard.error == 10 && heard.items == 0);
     assert(mv_debugger_data(&d, 0, out, sizeof out, &a) == MV_NO_ITEM);
+    expect_lines(&d, "< 5 reply ThreadReference.Frames 10\n");
+    assert(mv_debugger_turn(&d, &heard) == MV_DONE && heard.kind == MV_HEARD_NOTHING);
+    expect_lines(&d, "");
     /* the connection is lost with a command unanswered */
     ticket = ask(&d, 11, 6, all, sizeof all);
     assert(mv_debugger_waiting(&d, &a, &b, &yes) == MV_DONE && a == 65536 && b == 27 && yes);

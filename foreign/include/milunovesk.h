@@ -9,7 +9,8 @@
  *   - no pointer is null, not even where the length behind it is 0. A buffer has at least as many bytes (tickets: elements) as the length
  *     behind it says. No two arguments of a call overlap. What a call writes to holds a value of its type before (a bool: false or true).
  *   - the memory of arguments is the call's until it returns. No call keeps a pointer to it.
- *   - calls on one handle come from the thread that made what it keeps, one after the other. Calls on different handles may overlap in time.
+ *   - calls on one handle come one after the other, each seen by the next (under a lock, say), from any threads. Calls on different handles
+ *     may overlap in time.
  *   - `malloc`, `realloc` and `free` are one allocator's, and align as the C standard says. No call comes from a signal handler, nor from the forked child of a process
  *     with threads.
  *
@@ -191,6 +192,11 @@ uint32_t mv_debugger_turn(mv_handle *handle, mv_heard *out);
  * MV_SHORT_BUFFER where `room` is below `needed`, which is told then, too; MV_NO_ITEM; MV_NO_MEMORY; and MV_FAULT where the data can't be written: the
  * contract allows it, and no test has met it. */
 uint32_t mv_debugger_data(mv_handle *handle, size_t item, uint8_t *out, size_t room, size_t *needed);
+
+/* Moves the lines of what the last turn read to the front of `out`, `needed` bytes, as mv_show has them, a line a message, each with a newline; no
+ * byte where it read nothing or a composite event waits. Nothing changes. MV_SHORT_BUFFER where `room` is below `needed`, which is told then, too;
+ * MV_NO_MEMORY. */
+uint32_t mv_debugger_lines(mv_handle *handle, uint8_t *out, size_t room, size_t *needed);
 
 /* How many bytes each kind of id has, 1 to 8; all 0 while that is not known. */
 typedef struct {

@@ -9,7 +9,7 @@ from __future__ import annotations
 
 from threading import get_ident
 from types import TracebackType
-from typing import NamedTuple, Optional, Type, TypeVar
+from typing import List, NamedTuple, Optional, Type, TypeVar
 
 from . import _library as c
 from ._faults import (
@@ -295,6 +295,19 @@ class Debugger(_End):
             room = needed.value
         _done(answer)
         return buffer.raw[: needed.value]
+
+    def lines(self) -> List[str]:
+        """What the last turn read, as `show` has it, a line a message; none where it read nothing. Raises `OutOfMemory`."""
+        needed = c.size_t()
+        room = 256
+        while True:
+            buffer = c.buffer(room)
+            answer = c.library.mv_debugger_lines(self._handle, buffer, room, needed)
+            if answer != c.SHORT_BUFFER:
+                break
+            room = needed.value
+        _done(answer)
+        return buffer.raw[: needed.value].decode().split("\n")[:-1]
 
     def widths(self) -> Optional[Widths]:
         """The widths of ids; None until they are known."""

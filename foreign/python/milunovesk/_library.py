@@ -85,6 +85,7 @@ _SIGNATURES: dict[str, list[object]] = {
     "mv_debugger_ask": [_H, c.c_uint8, c.c_uint8, _IN, c.c_size_t, _U64, _U16],
     "mv_debugger_turn": [_H, _P(Heard)],
     "mv_debugger_data": [_H, c.c_size_t, _OUT, c.c_size_t, _SIZE],
+    "mv_debugger_lines": [_H, _OUT, c.c_size_t, _SIZE],
     "mv_debugger_widths": [_H, _FLAG, _P(IdWidths)],
     "mv_debugger_thread": [_H, c.c_uint64, _FLAG, _U32, _FLAG],
     "mv_debugger_unanswered": [_H, c.c_size_t, _P(Asked)],

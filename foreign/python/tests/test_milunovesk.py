@@ -78,6 +78,7 @@ class Sessions(unittest.TestCase):
             self.assertEqual(hear(debugger, target).kind, Heard.PARKED)
             self.assertEqual(hear(debugger, target), (Heard.SIZES, 0, 0, 1))
             self.assertEqual(debugger.data(), bytes.fromhex("02000000015a00000000") + ids(1))
+            self.assertEqual(debugger.lines(), ["< 1 Event.Composite 2 [(90, 0, #1)]", "< 1 reply VirtualMachine.IDSizes 0 8 8 8 8 8"])
             self.assertEqual(debugger.widths(), (8, 8, 8, 8, 8))
             self.assertEqual(debugger.thread(1), (1, True))
             self.assertIsNone(debugger.thread(7))

@@ -153,6 +153,12 @@ extern "C" {
         room: usize,
         needed: *mut usize,
     ) -> u32;
+    pub fn mv_debugger_lines(
+        handle: *mut Handle,
+        out: *mut u8,
+        room: usize,
+        needed: *mut usize,
+    ) -> u32;
     pub fn mv_debugger_widths(handle: *mut Handle, known: *mut bool, out: *mut IdWidths) -> u32;
     pub fn mv_debugger_thread(
         handle: *mut Handle,

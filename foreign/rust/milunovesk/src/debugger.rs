@@ -175,6 +175,21 @@ impl Debugger {
         }
     }
 
+    /// What the last turn read, as `show` has it, a line a message, each with its newline; empty where it read nothing.
+    ///
+    /// # Errors
+    /// `NoMemory`.
+    pub fn lines(&mut self) -> Result<String, Failure> {
+        let handle = self.0.lend();
+        let found = filled(256, |bytes, needed| unsafe {
+            sys::mv_debugger_lines(handle, bytes.as_mut_ptr(), bytes.len(), needed)
+        });
+        match found {
+            Ok(bytes) => Ok(String::from_utf8_lossy(&bytes).into_owned()),
+            Err(answer) => Err(crate::failure(answer, 0)),
+        }
+    }
+
     /// The widths of ids; None until they are known.
     pub fn widths(&mut self) -> Option<Widths> {
         let (mut known, mut out) = (false, sys::IdWidths::default());

@@ -1,8 +1,11 @@
-//! A handle of the library: owned, freed once, and kept on its thread, since a raw pointer is neither `Send` nor `Sync`.
+//! A handle of the library: owned, and freed once.
 use milunovesk_sys as sys;
 use std::ptr;
 
 pub(crate) struct Handle(sys::Handle);
+
+// SAFETY: that its handles may go to any thread is proved of the library. It is not `Sync`: calls on one come one after the other.
+unsafe impl Send for Handle {}
 
 impl Handle {
     /// One that keeps nothing.

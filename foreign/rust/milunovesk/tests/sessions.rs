@@ -113,6 +113,10 @@ fn a_thread_is_held_at_a_breakpoint() {
     assert_eq!(hear(&mut debugger, &mut target), Heard::Sizes(1));
     let start = [&[2, 0, 0, 0, 1, 90, 0, 0, 0, 0], ids(&[1]).as_slice()].concat();
     assert_eq!(debugger.data(0), Ok(Some(start)));
+    assert_eq!(
+        debugger.lines().unwrap(),
+        "< 1 Event.Composite 2 [(90, 0, #1)]\n< 1 reply VirtualMachine.IDSizes 0 8 8 8 8 8\n"
+    );
     assert_eq!(debugger.data(1), Ok(None));
     assert_eq!(debugger.widths().unwrap().object, 8);
     assert_eq!(
@@ -226,4 +230,18 @@ fn faults_are_told() {
     assert_eq!(target.turn(), Err(Failure::Fault(4)));
     assert_eq!(Target::new("{}", true, 1).err(), Some(Unmade::Script(22)));
     assert_eq!(Target::new("{}", true, 0).err(), Some(Unmade::BadLimit));
+}
+
+#[test]
+fn ends_go_to_other_threads() {
+    let mut debugger = Debugger::new(1).unwrap();
+    let mut target = std::thread::spawn(|| Target::new(&example("A.json"), true, 1000).unwrap())
+        .join()
+        .unwrap();
+    assert!(debugger.attach());
+    assert!(target.accept());
+    let heard = std::thread::spawn(move || hear(&mut debugger, &mut target))
+        .join()
+        .unwrap();
+    assert_eq!(heard, Heard::Hello);
 }

@@ -1,0 +1,116 @@
+#!/usr/bin/env python3
+"""How fast the library is from C, beside the same in Rattle, in one run, one in turn with the other.
+
+- frames: `mv_next_packet` over a stream of 50,000 commands in memory, 400 times (`frames.c`), and `next_packet` of jdwp_wire by a program that
+  stands below, which is proved and built for it;
+- both ends: a million SuspendCounts, 64 at a time, asked and answered in one process (`both_ends.c`), and crates/both_ends;
+- check: `mv_check` of a capture of 64 MB of short packets (`check.c`), and `jdwp check`.
+
+Prints, each the best of seven runs by the processor's time, what C reaches of the speed of Rattle. To reach: 0.9, and `mv_check` 1.
+
+    make -C foreign bench && foreign/bench/speed.py
+
+`rt run` in crates/both_ends and crates/jdwp builds the programs.
+"""
+
+import os
+import subprocess
+import sys
+import tempfile
+
+sys.dont_write_bytecode = True  # no folder of them beside the scripts
+
+HERE = os.path.dirname(os.path.abspath(__file__))
+ROOT = os.path.dirname(os.path.dirname(HERE))
+OUT = f"{HERE}/../out"
+sys.path.append(f"{ROOT}/bench")
+
+import captures
+
+RUNS = 7
+PASSES = 400
+ROUNDS = 15_625
+MB = 64
+
+# The program that counts frames, over the crates that it needs.
+FRAMES = """\
+//! Counts the packets of a stream in memory, again and again.
+#![tactic(auto)]
+
+use jdwp_wire::{Next, next_packet};
+use std::env;
+
+/// How many packets stand one behind the other in these bytes.
+fn found(bytes: &[u8]) -> u64 {
+    let mut found = 0u64;
+    let mut rest = bytes;
+    for _ in 0..bytes.len() {
+        match next_packet(rest) {
+            Next::Whole(_, left) => rest = left,
+            _ => break,
+        }
+        found = found.wrapping_add(1);
+    }
+    found
+}
+
+fn main(rt: HostRuntime) -> anyhow::Result<()> {
+    let packet = [0u8, 0, 0, 19, 0, 0, 0, 1, 0, 11, 12, 0, 0, 0, 0, 0, 0, 0, 1];
+    let mut stream = Vec::new(rt.alloc());
+    for _ in 0..50_000u32 {
+        stream.extend_from_slice(&packet)?;
+    }
+    let words = env::args(&rt)?.collect::<Vec<String>>(rt.alloc())?;
+    let mut all = 0u64;
+    if let [_, passes] = words.as_slice() {
+        for _ in 0..passes.parse::<u32>()? {
+            all = all.wrapping_add(found(stream.as_slice()));
+        }
+    }
+    println!(&rt; "{all} found")?;
+    Ok(())
+}
+"""
+
+
+def frames(folder):
+    """The program above, built in a repository of its own."""
+    os.makedirs(f"{folder}/crates/frames/src")
+    os.symlink(f"{ROOT}/HANDLES", f"{folder}/HANDLES")
+    subprocess.run(["cp", "-r", f"{ROOT}/crates/jdwp_wire", f"{folder}/crates/"], check=True)
+    with open(f"{folder}/crates.txt", "w", encoding="ascii") as out:
+        out.write("jdwp_wire: byteorder circular_buffer thiserror\nframes: jdwp_wire anyhow\n")
+    with open(f"{folder}/crates/frames/src/main.rt", "w", encoding="ascii") as out:
+        out.write(FRAMES)
+    subprocess.run(["rt", "run"], cwd=f"{folder}/crates/frames", check=True, stdout=subprocess.DEVNULL)
+    return f"{folder}/crates/frames/out/frames"
+
+
+def seconds(words, says):
+    """The processor's seconds of a run, which has to say this."""
+    process = subprocess.Popen(words, stdout=subprocess.PIPE)
+    said = process.stdout.read()
+    _, status, usage = os.wait4(process.pid, 0)
+    if os.waitstatus_to_exitcode(status) != 0 or said != says:
+        sys.exit(f"{words}: {said}")
+    return usage.ru_utime + usage.ru_stime
+
+
+def compare(name, in_c, in_rattle, says):
+    times = [(seconds(in_c, says), seconds(in_rattle, says)) for _ in range(RUNS)]
+    c, rattle = (min(it) for it in zip(*times))
+    print(f"{name}: {c:.3f} s from C, {rattle:.3f} s in Rattle: {rattle / c:.2f} of its speed", flush=True)
+
+
+def main():
+    with tempfile.TemporaryDirectory() as folder:
+        compare("frames", [f"{OUT}/bench_frames", str(PASSES)], [frames(folder), str(PASSES)], b"%d found\n" % (50_000 * PASSES))
+        rounds = str(ROUNDS)
+        compare("both ends", [f"{OUT}/bench_both_ends", rounds], [f"{ROOT}/crates/both_ends/out/both_ends", rounds], b"%d answered\n" % (64 * ROUNDS))
+        path = f"{folder}/session.capture"
+        captures.write_capture(path, captures.short_exchange, captures.packet_lines, MB * 1_000_000)
+        compare("check", [f"{OUT}/bench_check", path], [f"{ROOT}/crates/jdwp/out/jdwp", "check", path], b"yes\n")
+
+
+if __name__ == "__main__":
+    main()
