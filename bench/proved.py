@@ -34,11 +34,11 @@ jdwp_link | Link::run mirror at_most | The mirror shows what the target had as i
 jdwp_link | Link::run stays | What was read of a suspended thread's stack frames the target would answer now, under the premises of the ninth statement in [SUSPENSION](SUSPENSION.md#what-is-proved)
 jdwp_link | Link::run ok err | Events do and tell what the model of a session does and tells, so neither end refuses what the other sent; where memory was refused, exactly those before that event are done
 jdwp_link | Link::run memory | Only an Ask, a turn at a whole message (of the target, one that calls for some), a release, a step and a loss at the debugger where commands wait may want memory
-jdwp_link | Link::run_over carried carried_before failed | A way, as a connection, changes nothing: it carried what came to each end (but from an end that had lost the connection), or it failed
+jdwp_link | Link::run_over carried carried_before failed | A way, as a connection, carried what came to each end (but from an end that had lost it), or it failed
 jdwp_link | settles_each_ticket_once; tells_what_the_target_gave told once | Each command asked is answered, lost or waits, once; the answer told is the one that the target gave to it, and no other
 jdwp_link | Link::session stands faultless | All of this holds of any link; a turn of either end at what stands in front fails by want of memory alone
 jdwp_link | deliver taken fed | What leaves one end comes to the other, as far as there is room, and nothing else changes
-jdwp_pair | pair by_plan held ran failed; pair_session by_rounds | `pair` carries a plan out round by round, each line as soon as it is due; what is printed is what was told, or a beginning where the output failed; it ends for its reason only, and whom the debugger then holds is suspended, as above
+jdwp_pair | pair by_plan held ran failed; pair_session by_rounds; takes_what_the_first_takes | `pair` carries a plan out round by round, each line as soon as it is due; what is printed is what was told, or a beginning where the output failed; it ends for its reason only; whom the debugger then holds is suspended, as above. In `Apart` a debugger of that order is asked and reads the same, and `mirror` is by what it is sure of
 
 ## Both ends in two programs
 
@@ -50,8 +50,7 @@ jdwp_runs | holds_of_serve_and_attach; serves_by_acts; attaches_by_acts | The sa
 ## The model of both ends, for every lawful machine and any list of events
 
 jdwp_model | mirrors_what_was_seen; holds_only_suspended_threads; counts_at_most; settles_each_command_once; settles_in_order; tells_what_was_given; meets_no_fault; turns_close_at_ends_alone; idle_turns_change_nothing; answers_one_that_waits; answers_the_first_waiting; defers_few_commands; frames_read_stay_true | The statements of [SUSPENSION](SUSPENSION.md#what-is-proved), in their order
-jdwp_model | stands_soundly | Event requests are in an established session alone, and nothing waits at a closed debugger
-jdwp_model | worked_machine_is_lawful; counted_breakpoint_reports_once | Nine sessions over a lawful machine come out as worked out by hand
+jdwp_model | stands_soundly | Event requests are in an established session alone; nothing waits at a closed debugger
 jdwp_debuggee | moves_counts_and_requests; leaves_state_at_plain_commands | What commands and steps do to counts and requests, and which change nothing
 jdwp_debuggee | steps_where_it_runs; starts_with_least_thread | A thread steps only where it lives and is not suspended, events are not held, and no thread stands at the count limit; where one lives VM_START names that of least id
 
@@ -66,10 +65,9 @@ jdwp_orders | acts_in_one_order; is_sure_of_suspended_threads_only | While no re
 ## The target, over any lawful machine
 
 jdwp_target | Target::turn turns | A turn handles the message in front, by what it means, and does nothing exactly where none is whole or the end is closed or paused; bytes that begin no message give their fault and end the session as a loss does
-jdwp_target | Target::turn replies refused suspend resume set clear dispose; Target::step policy_all policy_event_thread policy_none | The same in the standard's words: a reply has its command's id, an error changes nothing; what Suspend, Resume, Set, Clear, Dispose and each suspend policy do
+jdwp_target | Target::turn replies refused suspend resume set clear dispose; Target::step policy_all policy_event_thread policy_none | The same in the standard's words: ids of replies, errors that change nothing; what Suspend, Resume, Set, Clear, Dispose and each suspend policy do
 jdwp_debuggee | read_command short reads; Debuggee::carry_out memory wants err; Debuggee::own_refusal | Twelve commands (Suspend, Resume, IDSizes, Dispose, Clear, ..) want no memory, nor does one that is unknown, that doesn't read or that the debuggee itself refuses; where memory is refused nothing changes
-jdwp_debuggee | Debuggee::suspend; Debuggee::set_request; Debuggee::exit | Each command does and answers what its definition says; before the first handshake a Suspend is refused with INTERNAL
-jdwp_target | Target::turn encoded packets; Target::release encoded; Target::step encoded | What is sent can be read by its layout, in packets within the limit
+jdwp_target | Target::turn encoded packets; Target::release encoded; Target::step encoded | What is sent reads back, within the limit
 jdwp_target | Target::step steps | A step is made exactly where the end is not paused and the thread may step, and reported in an established session alone
 jdwp_target | closes_for_a_reason | An open session closes only where Dispose was handled, the machine is dead or the connection was lost
 jdwp_debuggee | Debuggee::step fits unmarked; Debuggee::handshake fits; fits_vm_death | What a step reports, VM_START and VM_DEATH fit a packet; a thread whose death was reported starts nobody
@@ -87,7 +85,7 @@ jdwp_event | composites_have_their_layout; Modifier::of_entry; Composite::of_dat
 ## The debugger
 
 jdwp_debugger | Debugger::turn turns few memory | A turn tells and leaves what its definition says, whatever bytes came: a fault exactly where no target may send that, with the mirror emptied; want of memory changes nothing, and never comes at a fault of the bytes or a reply with an error
-jdwp_debugger | Debugger::turn answered suspend resume event_thread event_all refused; Debugger::ask packet refused | The same in the standard's words: an answer is told under its ticket; what Suspend, Resume and composites leave of the mirror; what a question puts; a refusal changes nothing
+jdwp_debugger | Debugger::turn answered suspend resume event_thread event_all refused; Debugger::ask packet refused | The same in the standard's words: tickets of answers; what Suspend, Resume and composites leave of the mirror; what an ask puts; a refusal changes nothing
 jdwp_debugger | Debugger::ask ok err | The first refusal that applies, and nothing has changed; else the command leaves under the next free id, encoded, within the limit
 jdwp_debugger | Debugger::session ran mirror; goes_on_at_each_call | After any calls the mirror is what the packets read in the session say, once each and in order, and empty after a refusal, a close or a loss; only IDSizes and the commands asked are sent, under free ids
 jdwp_debugger | Debugger::with_order; Debugger::turn turns | With `Order::Apart` no composite is refused for a count, VM_DEATH is taken as asked for, an error with data as its error, and the mirror has event requests alone
@@ -103,11 +101,12 @@ jdwp_command | thread_reference::suspend; event_request::set; answers::one_int |
 jdwp_wire | next_hello; next_packet; next_packet_in stays; standing_in | A packet or handshake is found, borrowed, exactly where its bytes stand in front; a fault once its bytes are there; else more is called for
 jdwp_wire | finds_first_message; Limits::new; IdSizes::new | A stream cut anywhere gives its first message once all of it came; limits and widths exactly in their ranges
 jdwp_wire | Wire::take found only fault memory; Wire::put ok err; Wire again; begins_with_one_value | A writing appends the canonical bytes, or changes nothing; what is written is read again whatever follows, what is read was written, no two values stand at one front, a fault is the first from the left, and want of memory hides none
-jdwp_value | Tag::of_byte; ArrayRegion::new | Each type of value keeps these laws at every width of ids
 jdwp_layout | layout_of | A command's row is that of the definitions' table of 94, or None
 jdwp_layout | read found only fault hides; write ok err; validate accepted fault memory; encodes_one_list | Data of any layout are read, written and judged, the first fault told; want of memory hides none, and judging takes no memory
-jdwp_show | check yes no; show begins fault lines | `check` and `show` name exactly the first fault of a capture and its line; the lines are those of the definitions, functions beside which no relation stands
+jdwp_show | check yes no; show begins fault lines | `check` and `show` name exactly the first fault of a capture and its line; the lines are those of the definitions
 jdwp_show | finds_each_message; stands_in_its_line; tells_widths_first; waits_where_it_stands | Relations to which these are tied: each message once, in the line of its last byte; which widths hold; which command waits
+jdwp_answer | Reply::read found only fault; Reply::of_data | A reply is read as a struct exactly where it is in its layout, nothing lost
+jdwp_text | read_data; read_items | What is read of a text encodes data of which `show` prints exactly that text
 jdwp_recording | Direction::come without data; Direction::next some none | Of one side of a recorded connection comes the beginning of its stream, up to the first byte that no segment has, in whatever order they came, again or over each other, at sequence numbers each less than 2^31 from the one before
 
 ## Machines, scripts, plans
@@ -120,6 +119,7 @@ jdwp_plan | read_plan; read_attach_plan; reads_each_form | Each line of a plan i
 ## Sessions over readers and writers, the program
 
 jdwp_engine | serve in_order ended rounds limit at_most | What was read is fed and what was enqueued written, in order, or a beginning where a write failed, and all was flushed before each read; the session is its rounds, what they send reads back, and each way to end comes only for its reason
+jdwp_live | serve_live in_order ended rounds | The same, live: threads step only where a read just before found nothing for as long as steps are apart; one waits for ever only where none can step
 jdwp_attach | attach_by_lines in_order ended last_flush line | The same of a debugger by a plan: the commands of its lines, in order, and between them a SuspendCount exactly where an event leaves its thread unsure, in `Order::Apart` alone; what is printed is what was told, or a beginning
 jdwp_tell | mirror_text; known_text; answered_line; seen_line | Lines are those of `show`; a mirror is told by its threads, then its requests; in `Order::Apart` each thread that was named, by what is sure
 jdwp_serve | serve_session served; serve_script fault untouched | A new target's session, from what was read to what was written; a script's fault with nothing touched
@@ -128,7 +128,7 @@ jdwp_program | check_capture tells leaves; show_capture tells leaves; attach_ses
 jdwp_words | read runs keeps | Words run a plan only where they name `attach` or `pair`, and write to no file that they read, by name
 jdwp_files | run bound leaves | The status, 4 at most, says what is on standard output, but for `attach` and `pair`
 jdwp_pipe | write_out; read_and_feed | All that waits is written, in order, or the failure told; one read feeds exactly what came
-milunovesk_c | mv_free; mv_debugger_new; mv_debugger_turn; mv_debugger_thread told; mv_target_turn; mv_check; mv_command_name | From C, as [FOREIGN](FOREIGN.md) says: calls do to what a handle keeps what the library's calls do; one that keeps nothing, or the other kind, is told and left
+milunovesk_c | mv_free; mv_debugger_new; mv_debugger_turn; mv_debugger_thread told; mv_target_turn; mv_check; mv_command_name | From C ([FOREIGN](FOREIGN.md)): calls do to what a handle keeps what the library's do; one that keeps nothing, or the other kind, is told and left
 jdwp_end | End::front front; End::take_off; finds_first_message; SessionEnd taken_twice | One end, of either kind: each call is one equation on the bytes and the phase
 """
 
