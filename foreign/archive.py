@@ -27,9 +27,10 @@ def main():
     crate = kit_library().Crate(CRATE, ROOT, {}, name="milunovesk_c")
     lacking = [it.name for it in crate.below() if not os.path.isdir(it.rlib)]
     if lacking:
-        sys.exit(f"archive.py: {lacking[0]} is not built: run rt ci first, or rt lib in {CRATE}")
+        print(f"archive.py: {lacking[0]} is not built: run rt ci in a fresh clone first, or rt lib in {CRATE}", file=sys.stderr)
+        sys.exit(3)
     os.makedirs("out", exist_ok=True)
-    sys.exit(crate.build_static([]))
+    sys.exit(1 if crate.build_static([]) else 0)
 
 
 if __name__ == "__main__":
