@@ -50,7 +50,7 @@ jdwp_runs | holds_of_serve_and_attach; serves_by_acts; attaches_by_acts | The sa
 ## The model of both ends, for every lawful machine and any list of events
 
 jdwp_model | mirrors_what_was_seen; holds_only_suspended_threads; counts_at_most; settles_each_command_once; settles_in_order; tells_what_was_given; meets_no_fault; turns_close_at_ends_alone; idle_turns_change_nothing; answers_one_that_waits; answers_the_first_waiting; defers_few_commands; frames_read_stay_true | The statements of [SUSPENSION](SUSPENSION.md#what-is-proved), in their order
-jdwp_model | stands_soundly | Event requests are in an established session alone; nothing waits at a closed debugger
+jdwp_model | stands_soundly | Event requests are in established sessions alone; nothing waits at a closed debugger
 jdwp_debuggee | moves_counts_and_requests; leaves_state_at_plain_commands | What commands and steps do to counts and requests, and which change nothing
 jdwp_debuggee | steps_where_it_runs; starts_with_least_thread | A thread steps only where it lives and is not suspended, events are not held, and no thread stands at the count limit; where one lives VM_START names that of least id
 
@@ -105,8 +105,8 @@ jdwp_layout | layout_of | A command's row is that of the definitions' table of 9
 jdwp_layout | read found only fault hides; write ok err; validate accepted fault memory; encodes_one_list | Data of any layout are read, written and judged, the first fault told; want of memory hides none, and judging takes no memory
 jdwp_show | check yes no; show begins fault lines | `check` and `show` name exactly the first fault of a capture and its line; the lines are those of the definitions
 jdwp_show | finds_each_message; stands_in_its_line; tells_widths_first; waits_where_it_stands | Relations to which these are tied: each message once, in the line of its last byte; which widths hold; which command waits
-jdwp_answer | Reply::read found only fault; Reply::of_data | A reply is read as a struct exactly where it is in its layout, nothing lost
-jdwp_text | read_data; read_items | What is read of a text encodes data of which `show` prints exactly that text
+jdwp_answer | Reply::read found only fault; Reply::of_data | A reply is a struct exactly where it is in its layout
+jdwp_text | read_data; read_items | What is read of a text encodes data of which `show` prints exactly that text; that each is read is tested
 jdwp_recording | Direction::come without data; Direction::next some none | Of one side of a recorded connection comes the beginning of its stream, up to the first byte that no segment has, in whatever order they came, again or over each other, at sequence numbers each less than 2^31 from the one before
 
 ## Machines, scripts, plans
@@ -119,7 +119,7 @@ jdwp_plan | read_plan; read_attach_plan; reads_each_form | Each line of a plan i
 ## Sessions over readers and writers, the program
 
 jdwp_engine | serve in_order ended rounds limit at_most | What was read is fed and what was enqueued written, in order, or a beginning where a write failed, and all was flushed before each read; the session is its rounds, what they send reads back, and each way to end comes only for its reason
-jdwp_live | serve_live in_order ended rounds | The same, live: threads step only where a read just before found nothing for as long as steps are apart; one waits for ever only where none can step
+jdwp_live | serve_live in_order ended rounds | The same, live: threads step only where a read just before found nothing for as long as steps are apart; one waits for ever only where none can
 jdwp_attach | attach_by_lines in_order ended last_flush line | The same of a debugger by a plan: the commands of its lines, in order, and between them a SuspendCount exactly where an event leaves its thread unsure, in `Order::Apart` alone; what is printed is what was told, or a beginning
 jdwp_tell | mirror_text; known_text; answered_line; seen_line | Lines are those of `show`; a mirror is told by its threads, then its requests; in `Order::Apart` each thread that was named, by what is sure
 jdwp_serve | serve_session served; serve_script fault untouched | A new target's session, from what was read to what was written; a script's fault with nothing touched
