@@ -2,6 +2,7 @@
 #![tactic(auto)]
 
 mod fields;
+mod lines;
 mod lists;
 mod method;
 mod reference_type;

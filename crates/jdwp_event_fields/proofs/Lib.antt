@@ -1,0 +1,3 @@
+pub mod Encoded
+pub mod Parts
+pub mod Said
