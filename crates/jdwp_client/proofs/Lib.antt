@@ -1,0 +1,7 @@
+pub mod Lists
+pub mod Taking
+pub mod Freeing
+pub mod Finding
+pub mod Steps
+pub mod Streams
+pub mod TicketLemmas

@@ -1,0 +1,19 @@
+//! A debugger for people who write debuggers: commands are asked and their answers waited for, and events are taken in the order in which they
+//! came, over any pipe.
+#![tactic(auto)]
+
+mod asking;
+mod client;
+mod errors;
+mod holding;
+mod kept;
+mod laws;
+mod options;
+mod turning;
+mod unanswered;
+mod waiting;
+
+pub use client::Client;
+pub use errors::{ClientError, Loss};
+pub use holding::is_surely_suspended;
+pub use options::Options;
