@@ -157,7 +157,7 @@ static HELP: [(&str, &str); 22] = [
     ),
     (
         "serve-script --help",
-        "Serves|Usage: jdwp serve-script |<MACHINE>|--from <FILE>|--to <FILE>|--start <WHICH>|--count-limit <N>|--defer|--turns <N>",
+        "Serves|Usage: jdwp serve-script |<MACHINE>|--from <FILE>|--to <FILE>|--port <N>|--live|--pace <MS>|--start <WHICH>|--count-limit <N>|--defer|--turns <N>",
     ),
     (
         "attach --help",
@@ -303,6 +303,7 @@ fn serves(
         settings,
         defer: false,
         turns,
+        live: None,
     });
     are_read(rt, alloc, words.as_slice(), &want);
 }
@@ -344,6 +345,7 @@ fn serves_at(rt: &impl Abort, alloc: Global, words: &[&str], port: u16, defer: b
         settings,
         defer,
         turns: 100000,
+        live: None,
     });
     are_read(rt, alloc, words, &want);
 }
@@ -502,6 +504,114 @@ fn other_words_of_peers_are_refused(rt: HostRuntime) {
     }
 }
 
+/// Words of live sessions, the port, and the milliseconds between two steps.
+static LIVE: [(&[&str], u16, u32); 4] = [
+    (&["--port", "8000", "--live"], 8000, 0),
+    (&["--live", "--port=0"], 0, 0),
+    (&["--port", "0", "--live", "--pace", "0"], 0, 0),
+    (
+        &["--pace=4294967295", "--live", "--port", "65535"],
+        65535,
+        4294967295,
+    ),
+];
+
+/// The words of live sessions are read so.
+fn are_live(rt: &impl Abort, alloc: Global, more: &[&str], port: u16, pace: u32) {
+    let mut words = Vec::new(alloc);
+    words
+        .extend_from_slice(&["jdwp", "serve-script", "m"])
+        .expect(rt, "memory");
+    words.extend_from_slice(more).expect(rt, "memory");
+    let standard = Limits::standard();
+    let settings = Settings::new(true, 65535, standard).expect(rt, "a count limit");
+    let want = Words::ServeScript(ServeScript {
+        machine: "m",
+        peer: Peer::Port(port),
+        settings,
+        defer: false,
+        turns: 100000,
+        live: Some(pace),
+    });
+    are_read(rt, alloc, words.as_slice(), &want);
+}
+
+/// `--live` and `--pace` at a port.
+#[test]
+fn live_sessions_are_read(rt: HostRuntime) {
+    for &(more, port, pace) in LIVE.iter() {
+        are_live(&rt, rt.alloc(), more, port, pace);
+    }
+}
+
+/// Words of live sessions that are refused, and the texts that are told, as those of `HELP`.
+static NOT_LIVE: [(&str, &str); 14] = [
+    (
+        "serve-script m --live",
+        "error: the following required arguments were not provided:|--port <N>|Usage: jdwp serve-script ",
+    ),
+    (
+        "serve-script m --live --from f --to t",
+        "error: |'--live'|--from <FILE>|Usage: jdwp serve-script ",
+    ),
+    (
+        "serve-script m --live --port 80 --from f",
+        "error: |--from <FILE>|Usage: jdwp serve-script ",
+    ),
+    (
+        "serve-script m --port 80 --live --turns 5",
+        "error: |'--live'|--turns <N>|Usage: jdwp serve-script ",
+    ),
+    (
+        "serve-script m --port 80 --live --live",
+        "error: |'--live'|Usage: jdwp serve-script ",
+    ),
+    (
+        "serve-script m --port 80 --live=yes",
+        "error: |yes|--live|Usage: jdwp serve-script ",
+    ),
+    (
+        "serve-script m --port 80 --pace 5",
+        "error: the following required arguments were not provided:|--live|Usage: jdwp serve-script ",
+    ),
+    (
+        "serve-script m --port 80 --pace 5 --turns 5",
+        "error: |--pace <MS>|--turns <N>|Usage: jdwp serve-script ",
+    ),
+    (
+        "serve-script m --from f --to t --pace 5",
+        "error: |--pace <MS>|--from <FILE>|Usage: jdwp serve-script ",
+    ),
+    (
+        "serve-script m --port 80 --live --pace +5",
+        "error: invalid value '+5' for '--pace <MS>': a number is digits alone|Usage: jdwp serve-script ",
+    ),
+    (
+        "serve-script m --port 80 --live --pace 4294967296",
+        "error: invalid value '4294967296' for '--pace <MS>'",
+    ),
+    (
+        "serve-script m --port 0",
+        "error: invalid value '0' for '--port <N>': 0 is not in 1..=65535",
+    ),
+    (
+        "attach p --port 80 --live",
+        "error: unexpected argument '--live'|Usage: ",
+    ),
+    (
+        "pair m p --pace 5",
+        "error: unexpected argument '--pace'|Usage: ",
+    ),
+];
+
+/// `--live` is for a port, and stands with no rounds; `--pace` and port 0 are for live sessions.
+#[test]
+fn other_words_of_live_sessions_are_refused(rt: HostRuntime) {
+    for &(words, texts) in NOT_LIVE.iter() {
+        is_helped(&rt, words, texts);
+    }
+}
+
 /// `--limits` behind each command that has a session.
 #[test]
 fn limits_are_read(rt: HostRuntime) {
@@ -513,6 +623,7 @@ fn limits_are_read(rt: HostRuntime) {
         settings,
         defer: false,
         turns: 100000,
+        live: None,
     });
     let words = [
         "jdwp",

@@ -5,7 +5,7 @@ ghost use Rattle.jdwp_program.specs.Outputs.{Leaves, LeavesOutcome};
 
 use crate::files::{attach_files, check_file, serve_files, show_file};
 use crate::memory::keep_freed_memory;
-use crate::sessions::{attach_port, pair_files, serve_port};
+use crate::sessions::{attach_port, pair_files, serve_live_port, serve_port};
 use jdwp_program::{
     Attach, Fault, Outcome, Pair, Peer, ServeScript, Words, report_fault, report_outcome,
     tell_version,
@@ -30,7 +30,7 @@ where
     E: Write,
     ensures bound { result ≤ 4 }
     // Unless the command runs a plan, on `out` is nothing, or what is told of a capture: all of it, the status saying whether it has a
-    // fault, or a beginning; or the program's version, or a beginning of it.
+    // fault, or a beginning; or the program's version, or the line of a port, or a beginning of it.
     ensures leaves { runs_plan S.text words.now ≡ false
         → Leaves result (O.contents out.old) (O.contents out.new) }
 {
@@ -55,7 +55,7 @@ where
         (O.contents out.new) }
 {
     match jdwp_words::read(rt.alloc(), words)? {
-        Words::ServeScript(words) => serve(rt, &words, err),
+        Words::ServeScript(words) => serve(rt, &words, out, err),
         Words::Attach(words) => attach(rt, &words, out),
         Words::Pair(words) => pair(rt, &words, out),
         Words::Show(file) => Ok(Outcome::Capture(show_file(rt, file, out)?)),
@@ -65,15 +65,21 @@ where
 }
 
 /// Serves the session of a file, or those of a port.
-fn serve<'a, R: Files + Clock + AllocGlobal + Net, E: Write>(
+fn serve<'a, R: Files + Clock + AllocGlobal + Net, O: Write, E: Write>(
     rt: &R,
     words: &ServeScript<'a>,
+    out: &mut O,
     err: &mut E,
-) -> Result<Outcome<'a>, Fault<'a>> {
+) -> Result<Outcome<'a>, Fault<'a>>
+    ensures { LeavesOutcome result (O.contents out.old) (O.contents out.new) }
+{
     keep_freed_memory(rt.alloc(), &words.settings.limits());
     match words.peer {
         Peer::Files(files) => serve_files(rt, words, &files),
-        Peer::Port(port) => serve_port(rt, words, port, err),
+        Peer::Port(port) => match words.live {
+            Some(pace) => serve_live_port(rt, words, port, pace, out, err),
+            None => serve_port(rt, words, port, err),
+        },
     }
 }
 

@@ -12,6 +12,7 @@ ghost use Rattle.jdwp_plan.specs.PlanLines.{said_by};
 ghost use Rattle.jdwp_plan.specs.Plans.{Says, SaysForAttach};
 ghost use Rattle.jdwp_pair.specs.Connections.{is_disconnected};
 ghost use Rattle.jdwp_pair.specs.PlanRuns.{PairsNew};
+ghost use Rattle.jdwp_program.specs.Outputs.{LeavesOutcome};
 ghost use Rattle.jdwp_files.specs.Pairs.{IsEndOfPair};
 ghost use Rattle.jdwp_files.specs.Refusals.{RefusesAttachPlan, RefusesPlan, RefusesScript};
 
@@ -20,12 +21,15 @@ use jdwp_attach::Attached;
 use jdwp_debuggee::Settings;
 use jdwp_debugger::{Debugger, Order};
 use jdwp_link::Memory;
+use jdwp_live_port::serve_live_sessions;
 use jdwp_machine::Machine;
 use jdwp_pair::{Connection, Loopback, PairEnded, pair_session};
 use jdwp_pipe::{Ended, Pipe, Streams};
 use jdwp_plan::{PlanLine, read_attach_plan, read_plan};
 use jdwp_port::{PortFault, PortListener, attach_stream, bind, connect, serve_sessions};
-use jdwp_program::{Attach, Awaited, Between, Fault, Lines, Outcome, Pair, ServeScript, Watched};
+use jdwp_program::{
+    Attach, Awaited, Between, Fault, Lines, Outcome, Pair, ServeScript, Watched, tell_listening,
+};
 use jdwp_script_machine::ScriptMachine;
 use jdwp_target::Target;
 use jdwp_wire::{Limits, NoMemory};
@@ -34,6 +38,7 @@ use std::io;
 use std::io::{Read, Write};
 use std::net::{Net, OpenListener, OpenStream};
 use std::rt::{Clock, Files};
+use std::time::Duration;
 
 /// Serves sessions at a port over the machine of a script, one after the other, until the machine dies or a session uses up its rounds. The
 /// fault of a session that is refused, why a connection failed, and that none could be taken is told on `err`, and the next debugger is
@@ -52,6 +57,63 @@ pub fn serve_port<'a, R: Files + Clock + AllocGlobal + Net, E: Write>(
     let listener = bind(rt, port)?;
     let mut lines = Lines::new(rt.alloc(), err, port);
     let ended = serve_at(rt, &mut target, &listener, words.turns, &mut lines)?;
+    lines.end();
+    Ok(Outcome::Session(ended))
+}
+
+/// How many rounds a live session has at most. No program lives that long.
+const MOST_ROUNDS: u64 = u64::MAX;
+
+/// Serves live sessions at a port over the machine of a script, one after the other, until the machine dies, with so many milliseconds between
+/// two steps at least; at port 0 the system chooses one. Once debuggers are awaited that is told on `out`, in one line. What goes wrong with
+/// a session or a connection is told on `err`, and the next debugger is awaited.
+///
+/// # Errors
+/// As those of `serve_port`; `Output` where `out` does not take the line.
+pub fn serve_live_port<'a, R: Files + Clock + AllocGlobal + Net, O: Write, E: Write>(
+    rt: &R,
+    words: &ServeScript<'a>,
+    port: u16,
+    pace: u32,
+    out: &mut O,
+    err: &mut E,
+) -> Result<Outcome<'a>, Fault<'a>>
+    ensures { LeavesOutcome result (O.contents out.old) (O.contents out.new) }
+{
+    let mut target = target_of(rt, words)?;
+    let listener = bind(rt, port)?;
+    tell_listening(rt.alloc(), listener.port(), out)?;
+    serve_live_at(rt, &mut target, listener, pace, err)
+}
+
+/// Serves debuggers that come to a port in live sessions, one after the other, and tells what goes wrong on `err`.
+fn serve_live_at<'a, R, M, E>(
+    rt: &R,
+    target: &mut Target<M>,
+    listener: PortListener<R::Listener>,
+    pace: u32,
+    err: &mut E,
+) -> Result<Outcome<'a>, Fault<'a>>
+where
+    R: Clock + AllocGlobal + Net,
+    M: Machine + Drop,
+    E: Write,
+    requires { is_open target.old.end ≡ false }
+{
+    let mut lines = Lines::new(rt.alloc(), err, listener.port());
+    let pace = Duration::from_millis(u64::from(pace));
+    let ended = serve_live_sessions(
+        rt.alloc(),
+        rt,
+        rt,
+        target,
+        listener,
+        pace,
+        MOST_ROUNDS,
+        |notice| {
+            lines.tell_live(notice);
+        },
+    )?;
     lines.end();
     Ok(Outcome::Session(ended))
 }

@@ -13,7 +13,7 @@ closed_by_loss : {S : Type 0} (m : Meaning S) (target : Target S) → IsLost m t
 closed_by_loss m target (before, ran, kept, is) = rw is refl
 
 -- of a living machine
-closed_at_end : {S : Type 0} (m : Meaning S) (how : Ended) (start now : Story) (target : Target S) → MayEnd m how start now target → goes_on how ≡ true → is_open target.end ≡ false
+pub closed_at_end : {S : Type 0} (m : Meaning S) (how : Ended) (start now : Story) (target : Target S) → MayEnd m how start now target → goes_on how ≡ true → is_open target.end ≡ false
 closed_at_end m ended.Done start now target (why, closed, kept, left) goes = closed
 closed_at_end m ended.LostByRead start now target (fails, front, (before, ran, kept, rest, is), left) goes = closed_by_loss m target (before, ran, kept, is)
 closed_at_end m ended.LostByWrite start now target (fails, is-lost) goes = closed_by_loss m target is-lost

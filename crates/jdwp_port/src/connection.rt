@@ -82,9 +82,10 @@ pub(crate) fn close<S: Read + Write + OpenStream + Drop, C: Clock>(
     }
 }
 
-/// Ends the writing half, and then reads and drops what still comes, up to its end, for a short time in all: a socket that is closed over
-/// bytes that were not read is reset by the system, and the other end loses what it had not read by then.
-fn part<S: Read + OpenStream + Drop, C: Clock>(clock: &C, mut reader: S, writer: &S) {
+/// Ends a connection of which these are both halves: the writing one, and then what still comes is read and dropped, up to its end, for 200
+/// ms in all and by 64 reads at most. (A socket that is closed over bytes that were not read is reset by the system, and the other end loses
+/// what it had not read by then.)
+pub fn part<S: Read + OpenStream + Drop, C: Clock>(clock: &C, mut reader: S, writer: &S) {
     if writer.shutdown(Shutdown::Write).is_err() {
         return;
     }

@@ -19,8 +19,8 @@ pub struct PortListener<L> {
 }
 
 /// What came of a call that was to take a connection.
-#[derive(Drop)]
-pub(crate) enum Taken<S> {
+#[derive(Debug, Drop)]
+pub enum Taken<S> {
     /// The next one.
     Stream(S),
     /// None, for a cause that passes.
@@ -92,7 +92,7 @@ impl<L: OpenListener> PortListener<L> {
     ///
     /// # Errors
     /// `Port` or `NoMemory` at a cause that does not pass, or behind too many in a row.
-    pub(crate) fn take(&self, in_a_row: u32) -> Result<Taken<L::Stream>, PortFault>
+    pub fn take(&self, in_a_row: u32) -> Result<Taken<L::Stream>, PortFault>
         ensures ok { IfOk result (IsTaken in_a_row) }
         ensures err { IfErr result (EndsTaking (port_of self.now) in_a_row) }
     {
@@ -118,7 +118,7 @@ fn is_gone(error: io::Error) -> bool
 const MOST_IN_A_ROW: u32 = 100;
 
 /// Whether a call may be made again, a little later, behind this error and so many in a row before it.
-pub(crate) fn may_pass(error: io::Error, in_a_row: u32) -> bool
+pub fn may_pass(error: io::Error, in_a_row: u32) -> bool
     ensures { result ≡ may_pass error in_a_row }
 {
     is_passing(error) && in_a_row < MOST_IN_A_ROW
@@ -148,7 +148,7 @@ const WAITS: [u64; 7] = [10, 20, 40, 80, 160, 320, 640];
 const LONGEST_WAIT: u64 = 1000;
 
 /// Waits a little behind so many calls in a row that found no connection; not at all behind none.
-pub(crate) fn pause<C: Clock>(clock: &C, in_a_row: u32) {
+pub fn pause<C: Clock>(clock: &C, in_a_row: u32) {
     let Some(place) = in_a_row.checked_sub(1) else {
         return;
     };

@@ -3,7 +3,8 @@ use Rattle.std.proofs.Common.{◌≡◌, ℕ, List, Option, Some, None, Result, 
 use Rattle.jdwp_show.specs.declared.capture_fault.CaptureFault.{CaptureFault}
 use Rattle.jdwp_show.specs.Sessions.{first_fault}
 use Rattle.jdwp_program.specs.Captures.{Tells, shown_text, verdict_text}
-use Rattle.jdwp_program.specs.Outputs.{IsTextOf, LeavesTold}
+use Rattle.jdwp_program.specs.Listening.{TellsListening}
+use Rattle.jdwp_program.specs.Outputs.{IsTextOf, LeavesListened, LeavesTold}
 use Rattle.jdwp_program.specs.Version.{version_line}
 use Rattle.jdwp_program.specs.declared.captures.Told.{Told}
 use Rattle.jdwp_program.specs.declared.captures.Told.TheVariants.{Faultless, Faulty, Unread}
@@ -33,8 +34,14 @@ leaves_judged capture old new result tells = leaves_capture capture (verdict_tex
 
 -- of the program's version
 pub leaves_version : (old new : Option (List ℕ)) (result : Result Told TellFault) → Tells None version_line old new result → LeavesTold result old new
-leaves_version old new (Ok Faultless) tells = inr (inr (inl (refl, tells.1)))
+leaves_version old new (Ok Faultless) tells = inr (inr (inl (inl (refl, tells.1))))
 leaves_version old new (Ok Faulty) tells = absurd cc
-leaves_version old new (Ok Unread) tells = inr (inr (inr (refl, tells)))
-leaves_version old new (Err (Output error)) tells = inr (inr (inr (refl, tells.1)))
+leaves_version old new (Ok Unread) tells = inr (inr (inl (inr (refl, tells))))
+leaves_version old new (Err (Output error)) tells = inr (inr (inl (inr (refl, tells.1))))
 leaves_version old new (Err NoMemory) tells = inl tells
+
+-- of the line of a port
+pub leaves_listened : (port : ℕ) (old new : Option (List ℕ)) (result : Result (Unit {0}) TellFault) → TellsListening port old new result → LeavesListened result old new
+leaves_listened port old new (Ok done) tells = λ status. inr (inr (inr (port, inl tells)))
+leaves_listened port old new (Err (Output error)) tells = inr (inr (inr (port, inr (refl, tells))))
+leaves_listened port old new (Err NoMemory) tells = inl tells

@@ -2,6 +2,7 @@ pub mod Attaching
 pub mod Awaiting
 pub mod Captures
 pub mod Files
+pub mod Listening
 pub mod Losses
 pub mod Notices
 pub mod Outputs

@@ -9,6 +9,7 @@ use Rattle.jdwp_program.specs.declared.fault.Fault.{Fault}
 use Rattle.jdwp_program.specs.declared.outcome.Outcome.{Outcome}
 use Rattle.jdwp_program.specs.Captures.{shown_text, verdict_text}
 use Rattle.jdwp_program.specs.Files.{fault_of_telling}
+use Rattle.jdwp_program.specs.Listening.{listening_line}
 use Rattle.jdwp_program.specs.Printing.{AppendsPart}
 use Rattle.jdwp_program.specs.Version.{version_line}
 use Rattle.jdwp_program.specs.Statuses.{status_of_told, status_of_fault, status_of_outcome}
@@ -31,13 +32,21 @@ LeavesCapture status old new =
 abbrev pub LeavesVersion : ℕ → Option (List ℕ) → Option (List ℕ) → Type 0
 LeavesVersion status old new = ((status ≡ 0) × Appends old new version_line) ⊎ ((status ≡ 2) × AppendsPart old new version_line)
 
--- what a run with this status leaves: nothing, what it told of a capture, or the program's version
+-- a run with this status told where debuggers are awaited: the whole line; or a beginning, and the status is 2
+abbrev pub LeavesListening : ℕ → Option (List ℕ) → Option (List ℕ) → Type 0
+LeavesListening status old new = (port : ℕ) × (Appends old new (listening_line port) ⊎ ((status ≡ 2) × AppendsPart old new (listening_line port)))
+
+-- what a run with this status leaves: nothing, what it told of a capture, the program's version, or the line of a port
 abbrev pub Leaves : ℕ → Option (List ℕ) → Option (List ℕ) → Type 0
-Leaves status old new = Keeps old new ⊎ (LeavesCapture status old new ⊎ LeavesVersion status old new)
+Leaves status old new = Keeps old new ⊎ (LeavesCapture status old new ⊎ (LeavesVersion status old new ⊎ LeavesListening status old new))
 
 -- the same by what was answered of a capture or the version
 abbrev pub LeavesTold : Result Told TellFault → Option (List ℕ) → Option (List ℕ) → Type 0
 LeavesTold result old new = MatchResult result (λ told. Leaves (status_of_told told) old new) (λ fault. Leaves (status_of_fault (fault_of_telling fault)) old new)
+
+-- by what was answered of the line of a port: where all of it was printed, whatever the status comes to
+abbrev pub LeavesListened : Result (Unit {0}) TellFault → Option (List ℕ) → Option (List ℕ) → Type 0
+LeavesListened result old new = MatchResult result (λ done. (status : ℕ) → Leaves status old new) (λ fault. Leaves (status_of_fault (fault_of_telling fault)) old new)
 
 -- by what was answered of the capture of a file
 abbrev pub LeavesCaptureTold : Result Told Fault → Option (List ℕ) → Option (List ℕ) → Type 0

@@ -5,6 +5,7 @@ ghost use Rattle.jdwp_program.specs.Notices.{Counts, Ends, dropped_by};
 use crate::losing::Loss;
 use crate::outcome::{Outcome, report_outcome};
 use crate::printing::print;
+use jdwp_live_port::{LiveCause, LiveNotice};
 use jdwp_pipe::Ended;
 use jdwp_port::Notice;
 use std::alloc::Global;
@@ -44,6 +45,13 @@ impl<'a, E: Write> Lines<'a, E> {
     pub fn tell(&mut self, notice: Notice)
         ensures { Counts (dropped_by self.old) (dropped_by self.new) }
     {
+        self.tell_live(LiveNotice::Port(notice));
+    }
+
+    /// The same of what a server of live sessions tells.
+    pub fn tell_live(&mut self, notice: LiveNotice)
+        ensures { Counts (dropped_by self.old) (dropped_by self.new) }
+    {
         if self.is_taken(notice) {
             self.dropped = 0;
         } else {
@@ -62,7 +70,7 @@ impl<'a, E: Write> Lines<'a, E> {
     }
 
     /// Whether the line is taken whole, and with it how many were dropped before it.
-    fn is_taken(&mut self, notice: Notice) -> bool
+    fn is_taken(&mut self, notice: LiveNotice) -> bool
         ensures { dropped_by self.new ≡ dropped_by self.old }
     {
         let mut line = Vec::new(self.alloc);
@@ -81,20 +89,24 @@ impl<'a, E: Write> Lines<'a, E> {
     }
 
     /// Appends what is told. Whether there is memory for it.
-    fn push_notice(&self, notice: Notice, line: &mut Vec<u8>) -> bool {
+    fn push_notice(&self, notice: LiveNotice, line: &mut Vec<u8>) -> bool {
         match notice {
-            Notice::Refused(number) => {
+            LiveNotice::Port(Notice::Refused(number)) => {
                 report_outcome(Outcome::Session(Ended::Refused(number)), line);
             }
-            Notice::Lost(cause) => {
+            LiveNotice::Port(Notice::Lost(cause)) => {
                 report_outcome(Outcome::Lost(Loss::Port(self.port, cause)), line);
             }
-            Notice::Again(cause) => {
+            LiveNotice::Port(Notice::Again(cause)) => {
                 let port = self.port;
                 let _ = writeln!(
                     line,
                     "jdwp: port {port}: no connection is taken, and another call is made: {cause}"
                 );
+            }
+            LiveNotice::NoHandshake => {
+                let (port, cause) = (self.port, LiveCause::NoHandshake);
+                let _ = writeln!(line, "jdwp: port {port}: {cause}");
             }
         }
         line.ends_with(b"\n")

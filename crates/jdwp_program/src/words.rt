@@ -28,7 +28,7 @@ pub enum Words<'a> {
 pub enum Peer<'a> {
     /// In files: its bytes are read from one, and this end's are written to the other.
     Files(SessionFiles<'a>),
-    /// Behind a port of this machine, 1 to 65,535.
+    /// Behind a port of this machine, 1 to 65,535; or 0, of live sessions alone: one that the system chooses.
     Port(u16),
 }
 
@@ -41,7 +41,8 @@ pub struct SessionFiles<'a> {
     pub to: &'a str,
 }
 
-/// `serve-script MACHINE (--from F --to F | --port N) [--start all|none] [--count-limit N] [--limits L] [--defer] [--turns N]`.
+/// `serve-script MACHINE (--from F --to F | --port N) [--start all|none] [--count-limit N] [--limits L] [--defer] [--turns N]`, or
+/// `serve-script MACHINE --port N --live [--pace MS] [--start all|none] [--count-limit N] [--limits L] [--defer]`.
 #[derive(Clone, Copy, Debug, PartialEq, Eq)]
 pub struct ServeScript<'a> {
     /// The file of the machine's script.
@@ -53,8 +54,10 @@ pub struct ServeScript<'a> {
     pub settings: Settings,
     /// Whether the target defers the replies to commands of the sets ReferenceType and Method.
     pub defer: bool,
-    /// How many rounds a session has at most.
+    /// How many rounds a session has at most that is not live.
     pub turns: u32,
+    /// Where sessions are live, how many milliseconds pass at least between two steps of the machine.
+    pub live: Option<u32>,
 }
 
 /// `attach PLAN (--from F --to F | --port N) [--order one|apart] [--limits L] [--turns N]`.

@@ -89,7 +89,10 @@ enum Part {
     Capture,
     From(&'static str),
     To(&'static str),
-    Port(&'static str),
+    /// The least port that may be named, too.
+    Port(&'static str, i64),
+    Live,
+    Pace,
     Memory,
     Start,
     CountLimit,
@@ -101,11 +104,13 @@ enum Part {
 
 static OF_A_CAPTURE: [Part; 1] = [Part::Capture];
 
-static OF_SERVE_SCRIPT: [Part; 9] = [
+static OF_SERVE_SCRIPT: [Part; 11] = [
     Part::Machine,
     Part::From("What the debugger sent, in bytes"),
     Part::To("Where the target's bytes are written"),
-    Part::Port("The port of 127.0.0.1 at which debuggers connect"),
+    Part::Port("The port of 127.0.0.1 at which debuggers connect", 0),
+    Part::Live,
+    Part::Pace,
     Part::Start,
     Part::CountLimit,
     Part::Limits,
@@ -117,7 +122,7 @@ static OF_ATTACH: [Part; 7] = [
     Part::Plan("A text of lines `ask SET NUMBER [HEX]`, `answers`, `events N` and `mirror`"),
     Part::From("What the target sent, in bytes"),
     Part::To("Where the debugger's bytes are written"),
-    Part::Port("The port of 127.0.0.1 at which the target listens"),
+    Part::Port("The port of 127.0.0.1 at which the target listens", 1),
     Part::Order,
     Part::Limits,
     Part::Turns("How many turns the session has at most"),
@@ -231,13 +236,42 @@ fn read_serve_script<'a>(
     found: &ArgMatches<'a>,
 ) -> Result<ServeScript<'a>, Fault<'a>> {
     let count_limit = number(alloc, found, "count-limit", Name::ServeScript)?;
+    let live = read_live(alloc, found)?;
     Ok(ServeScript {
         settings: read_settings(alloc, found, count_limit, Name::ServeScript)?,
         defer: found.get_flag("defer"),
         machine: value(alloc, found, "machine")?,
-        peer: read_peer(alloc, found, Name::ServeScript)?,
+        peer: read_server_peer(alloc, found, live.is_some())?,
         turns: number(alloc, found, "turns", Name::ServeScript)?,
+        live,
     })
+}
+
+/// Whether sessions are live, and how many milliseconds pass at least between two steps then.
+fn read_live<'a>(alloc: Global, found: &ArgMatches<'a>) -> Result<Option<u32>, Fault<'a>> {
+    if !found.get_flag("live") {
+        return Ok(None);
+    }
+    if !found.contains_id("pace") {
+        return Ok(Some(0));
+    }
+    Ok(Some(number(alloc, found, "pace", Name::ServeScript)?))
+}
+
+/// Where debuggers are. That the system chooses the port is for live sessions alone, which tell it.
+fn read_server_peer<'a>(
+    alloc: Global,
+    found: &ArgMatches<'a>,
+    is_live: bool,
+) -> Result<Peer<'a>, Fault<'a>> {
+    match read_peer(alloc, found, Name::ServeScript)? {
+        Peer::Port(0) if !is_live => Err(bad_words(
+            alloc,
+            named_in_full(alloc, Name::ServeScript),
+            "invalid value '0' for '--port <N>': 0 is not in 1..=65535",
+        )),
+        peer => Ok(peer),
+    }
 }
 
 /// The settings of a target with this count limit, which the options of this command say.
@@ -392,7 +426,8 @@ fn bad_number<'a>(alloc: Global, text: &str, name: &str, of: Name) -> Fault<'a> 
 
 /// That this value of the option is no number.
 fn number_message(alloc: Global, text: &str, name: &str) -> Result<String, AllocError> {
-    format!(in alloc; "invalid value '{text}' for '--{name} <N>': a number is digits alone")
+    let shown = if name == "pace" { "MS" } else { "N" };
+    format!(in alloc; "invalid value '{text}' for '--{name} <{shown}>': a number is digits alone")
 }
 
 /// The command with the program's name before its own.
@@ -487,7 +522,9 @@ fn argument_of<'a>(alloc: Global, part: Part) -> Result<Arg<'a>, AllocError> {
     match part {
         Part::From(help) => Ok(from(alloc, help)),
         Part::To(help) => Ok(to(alloc, help)),
-        Part::Port(help) => port(alloc, help),
+        Part::Port(help, least) => port(alloc, help, least),
+        Part::Live => live(alloc),
+        Part::Pace => pace(alloc),
         Part::Machine => Ok(machine(alloc)),
         Part::Plan(help) => Ok(plan(alloc, help)),
         Part::Capture => Ok(capture(alloc)),
@@ -522,11 +559,29 @@ fn to<'a>(alloc: Global, help: &'a str) -> Arg<'a> {
     option(alloc, "to", "FILE", help)
 }
 
-/// The port that a session is at, in place of files.
-fn port<'a>(alloc: Global, help: &'a str) -> Result<Arg<'a>, AllocError> {
+/// The port that a session is at, in place of files, from this one on.
+fn port<'a>(alloc: Global, help: &'a str, least: i64) -> Result<Arg<'a>, AllocError> {
     option(alloc, "port", "N", help)
-        .value_parser(value_parser!(u32).range(1..=65535))
+        .value_parser(value_parser!(u32).range(least..=65535))
         .conflicts_with_all(&["from", "to"])
+}
+
+/// That sessions are live.
+fn live<'a>(alloc: Global) -> Result<Arg<'a>, AllocError> {
+    let help =
+        "Threads step only while nothing comes, and the next debugger is awaited for ever; --port 0 is a port that the system chooses";
+    let option: Arg<'a> = flag(alloc, "live", help);
+    let option: Arg<'a> = option.requires_arg("port")?;
+    option.conflicts_with_all(&["from", "to", "turns"])
+}
+
+/// How far the steps of live sessions are apart.
+fn pace<'a>(alloc: Global) -> Result<Arg<'a>, AllocError> {
+    let help =
+        "How many milliseconds pass at least between two steps of live sessions, 0 if it is not given";
+    let option: Arg<'a> = option(alloc, "pace", "MS", help).value_parser(value_parser!(u32));
+    let option: Arg<'a> = option.requires_arg("live")?;
+    option.conflicts_with_all(&["from", "to", "turns"])
 }
 
 /// That nothing but memory is between both ends of a session.

@@ -14,12 +14,12 @@ const GREETS: &[u8] = b"JDWP-";
 
 const ENDS_GREETING: &[u8] = b"Handshake";
 
-const ASKS_FOR_STARTS: &[u8] = &[
+pub(crate) const ASKS_FOR_STARTS: &[u8] = &[
     0x00, 0x00, 0x00, 0x11, 0x00, 0x00, 0x00, 0x02, 0x00, 0x0f, 0x01, 0x06, 0x00, 0x00, 0x00, 0x00,
     0x00,
 ];
 
-const ASKS_FOR_DEATHS: &[u8] = &[
+pub(crate) const ASKS_FOR_DEATHS: &[u8] = &[
     0x00, 0x00, 0x00, 0x11, 0x00, 0x00, 0x00, 0x03, 0x00, 0x0f, 0x01, 0x07, 0x00, 0x00, 0x00, 0x00,
     0x00,
 ];
@@ -30,7 +30,7 @@ const GREETED: usize = 73;
 const GREETED_AGAIN: usize = 44;
 
 /// Thread 5 starts thread 9, then thread 2; both have run out where they begin.
-const STARTING: &str = "{\"name\":\"S\",\"sizes\":[8,8,8,8,8],
+pub(crate) const STARTING: &str = "{\"name\":\"S\",\"sizes\":[8,8,8,8,8],
 \"groups\":[{\"id\":3,\"name\":\"main\",\"parent\":0}],\"classes\":[],\"objects\":[],
 \"threads\":[{\"id\":9,\"name\":\"c\",\"group\":3,\"steps\":[]},
  {\"id\":5,\"name\":\"b\",\"group\":3,\"steps\":[[\"start\",9],[\"start\",2]]},

@@ -1,0 +1,2 @@
+pub mod LiveClosing
+pub mod LiveOnward

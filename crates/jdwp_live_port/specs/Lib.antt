@@ -1,0 +1,4 @@
+pub mod LiveConnections
+pub mod LiveNotices
+pub mod LiveReading
+pub mod LiveServed
