@@ -3,7 +3,8 @@
 
 - frames: `mv_next_packet` over a stream of 50,000 commands in memory, 400 times (`frames.c`), and `next_packet` of jdwp_wire by a program that
   stands below, which is proved and built for it;
-- both ends: a million SuspendCounts, 64 at a time, asked and answered in one process (`both_ends.c`), and crates/both_ends;
+- both ends: a million SuspendCounts, 64 at a time, asked and answered in one process (`both_ends.c`), and `both_ends bytes` of crates/both_ends, whose commands are
+  made of the bytes of their data, too. Beside it, as a thing of its own, `both_ends`, which makes them of items and so reads no bytes;
 - check: `mv_check` of a capture of 64 MB of short packets (`check.c`), and `jdwp check`.
 
 Prints, each the best of seven runs by the processor's time, what C reaches of the speed of Rattle. To reach: 0.9, and `mv_check` 1.
@@ -46,7 +47,10 @@ fn found(bytes: &[u8]) -> u64 {
     let mut rest = bytes;
     for _ in 0..bytes.len() {
         match next_packet(rest) {
-            Next::Whole(_, left) => rest = left,
+            Next::Whole(_, used) => match rest.get(used..) {
+                Some(left) => rest = left,
+                None => break,
+            },
             _ => break,
         }
         found = found.wrapping_add(1);
@@ -106,7 +110,9 @@ def main():
     with tempfile.TemporaryDirectory() as folder:
         compare("frames", [f"{OUT}/bench_frames", str(PASSES)], [frames(folder), str(PASSES)], b"%d found\n" % (50_000 * PASSES))
         rounds = str(ROUNDS)
-        compare("both ends", [f"{OUT}/bench_both_ends", rounds], [f"{ROOT}/crates/both_ends/out/both_ends", rounds], b"%d answered\n" % (64 * ROUNDS))
+        in_c, in_rattle, says = f"{OUT}/bench_both_ends", f"{ROOT}/crates/both_ends/out/both_ends", b"%d answered\n" % (64 * ROUNDS)
+        compare("both ends", [in_c, rounds], [in_rattle, "bytes", rounds], says)
+        compare("both ends, beside commands made of items", [in_c, rounds], [in_rattle, rounds], says)
         path = f"{folder}/session.capture"
         captures.write_capture(path, captures.short_exchange, captures.packet_lines, MB * 1_000_000)
         compare("check", [f"{OUT}/bench_check", path], [f"{ROOT}/crates/jdwp/out/jdwp", "check", path], b"yes\n")

@@ -24,3 +24,8 @@ pub mod Plan
 pub mod Attach
 pub mod Command
 pub mod Port
+pub mod Answer
+pub mod EventFields
+pub mod Text
+pub mod Live
+pub mod Client

@@ -52,8 +52,11 @@ pub use jdwp_debugger::{
 };
 pub use jdwp_mirror::CommandKind;
 
-// The commands that a debugger asks, by name, and their answers.
+// The commands that a debugger asks, by name, and their answers; replies and events with their fields by name; data as texts.
+pub use jdwp_answer as replies;
 pub use jdwp_command as commands;
+pub use jdwp_event_fields as events;
+pub use jdwp_text as texts;
 
 // Both ends in one process.
 pub use jdwp_link::{Link, LinkEvent, Memory, Outcome, Side, Stopped, Way, deliver};
@@ -78,6 +81,13 @@ pub use jdwp_engine::serve;
 pub use jdwp_pipe::{Ended, Pipe, Streams};
 pub use jdwp_plan::{LineFault, PlanFault, PlanLine, read_plan};
 pub use jdwp_serve::{serve_script, serve_session};
+
+// A client: a debugger that asks, and waits for answers and events.
+pub use jdwp_client as client;
+
+// Live sessions: a target whose threads step while a debugger is there.
+pub use jdwp_live::serve_live;
+pub use jdwp_live_pipe::{Came, LivePipe, LiveStreams, Patience, PatientRead};
 
 // Sessions at ports of this machine.
 pub use jdwp_port as ports;

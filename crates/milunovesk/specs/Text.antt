@@ -1,0 +1,2 @@
+-- What contracts say of data as texts.
+pub use Rattle.jdwp_text.specs.Says
