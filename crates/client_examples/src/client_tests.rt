@@ -35,8 +35,11 @@ fn ask_count(
 /// The requests of the events that are kept, in order.
 fn kept_requests(rt: &impl Abort, alloc: Global, client: &mut FakeClient) -> Vec<Option<i32>> {
     let mut requests = Vec::new(alloc);
-    while let Some(composite) = client.try_event() {
-        requests.push(request_of(&composite)).expect(rt, "memory");
+    for _ in 0..64u32 {
+        match client.try_event() {
+            Some(composite) => requests.push(request_of(&composite)).expect(rt, "memory"),
+            None => return requests,
+        }
     }
     requests
 }

@@ -64,7 +64,8 @@ fn the_input_ends_behind_each_byte(rt: HostRuntime) {
     let bytes = session(&rt, alloc);
     expect_same(&rt, &bytes.len(), &125);
     for count in 0..125usize {
-        let mut client = client(&rt, alloc, &bytes[..count], count as u32, 0, 64);
+        let front = bytes.get(..count).expect(&rt, "so many bytes");
+        let mut client = client(&rt, alloc, front, count as u32, 0, 64);
         let had = ENDS.iter().filter(|end| **end <= count).count();
         let lost = Some(ClientError::Lost(Loss::ByRead));
         expect_same_for(&rt, &waits(&rt, alloc, &mut client), &(had, lost), &count);

@@ -13,8 +13,11 @@ const EVENTS: i32 = 10_000;
 /// Takes all events that are kept, which are of the requests from this one on, and gives the request of the next one.
 fn take_kept(rt: &impl Abort, client: &mut FakeClient, from: i32) -> i32 {
     let mut next = from;
-    while let Some(composite) = client.try_event() {
-        expect_same(rt, &request_of(&composite), &Some(next));
+    for _ in 0..EVENTS {
+        match client.try_event() {
+            Some(composite) => expect_same(rt, &request_of(&composite), &Some(next)),
+            None => return next,
+        }
         next = next.wrapping_add(1);
     }
     next
@@ -34,14 +37,14 @@ fn many_events_come_before_an_answer(rt: HostRuntime) {
     let ticket = client.send(command).expect(&rt, "it is put");
     let mut next = 0;
     // With 997 kept there is no room for four more.
-    for full in 1..11 {
+    for full in 1..11i32 {
         expect_same(
             &rt,
             &client.wait(ticket).err(),
             &Some(ClientError::TooManyEvents),
         );
         next = take_kept(&rt, &mut client, next);
-        expect_same_for(&rt, &next, &(997 * full), &full);
+        expect_same_for(&rt, &next, &997i32.saturating_mul(full), &full);
     }
     let answer = client.wait(ticket).ok().and_then(|answer| one_int(&answer));
     expect_same(&rt, &answer, &Some(3));
