@@ -21,9 +21,7 @@ PAGE = f"{ROOT}/docs/PROVED.md"
 HEAD = """\
 # What is proved
 
-This page is made by `bench/proved.py`, which fails where a contract that it names is gone. Every function is safe and returns, whatever bytes come ([README](../README.md#what-is-proved)). Beyond that you may rely on this; behind a function's colon stand the clauses (`ensures NAME`) that say it, and [DEFINITIONS.md](DEFINITIONS.md) leads through their words.
-
-The *mirror* is what the debugger worked out of threads, suspend counts and event requests, from the packets read in this session; it *holds* a thread that it takes as suspended. To *defer* a command is to answer it later.
+This page is made by `bench/proved.py`, which fails where a contract that it names is gone. Every function is safe and returns, whatever bytes come ([README](../README.md#what-is-proved)). Beyond that you may rely on this; behind a function's colon stand the clauses (`ensures NAME`) that say it, and [DEFINITIONS](DEFINITIONS.md) leads through their words, *mirror*, *hold* and *defer* first.
 """
 
 ROWS = """\
@@ -42,10 +40,11 @@ jdwp_pair | pair by_plan held ran failed; pair_session by_rounds; takes_what_the
 
 ## Both ends in two programs
 
-jdwp_across | holds_in_two_programs; merges_as_worked_out | The first three rows above and that of commands, of every merge of the calls of both, over a connection that brings the bytes in order; with equal limits and sessions that begin at both together
-jdwp_across | suspends_what_is_held | A thread that the debugger holds is suspended in the other program's target now, unless as above
-jdwp_runs | holds_of_two_runs | The two rows above, of the calls that any loops make in the two programs, wherever these stand; and a session may begin at one end before the other, while the debugger holds nobody
-jdwp_runs | holds_of_serve_and_attach; serves_by_acts; attaches_by_acts | The same of a target that `serve` runs and a debugger that `attach` runs in another program: all that either does is a list of such calls
+jdwp_across | holds_in_two_programs; merges_as_worked_out | The first three rows above and that of commands, of every merge of the calls of both, over a connection that brings the bytes in order; sessions begin at both together, limits are equal
+jdwp_across | suspends_what_is_held; suspends_what_is_held_apart | A thread that the debugger holds is suspended in the other program's target now, unless as above; with `Order::Apart`, while it lives, whatever is unanswered
+jdwp_across | holds_of_two_runs | The two rows above, whatever loops make the calls; a session may begin at one end first
+jdwp_across | holds_of_serve_and_attach; serves_by_acts; attaches_by_acts | The same of what `serve` and `attach` run, which is such calls
+jdwp_across | holds_within_own_limits; holds_of_two_runs_within; holds_of_serve_and_attach_within; own_limits_as_worked_out; refuses_longer_packets | The same of ends with limits of their own, where the target's packets may be no longer than the debugger's and it takes each command asked; what is longer an end refuses, as fault 2
 
 ## The model of both ends, for every lawful machine and any list of events
 
@@ -60,7 +59,7 @@ jdwp_apart | shows_only_suspended_threads; shows_what_stays_suspended | A live t
 jdwp_apart | shows_each_suspended_thread; nobody_is_sure_after_a_resume_in_vain | When what is sure is the count; after a Resume in vain and one event no rule can tell
 jdwp_apart | shows_frames_that_stay_true | What was answered of a thread's stack frames since stays true while it is surely suspended without a break and no slot of it is written
 jdwp_watch | Watch::on_ask; Watch::on_answer; Watch::on_composite; Watch::sure value covered; Watch::is_sure suspended; Watch::threads sure | `Watch` is that rule in code, for 2^62 packets: what it is sure of a live thread is so in each target whose debugger asked and read what it was told, and the thread is among `threads`
-jdwp_orders | acts_in_one_order; is_sure_of_suspended_threads_only | While no reply is deferred the model of both ends is such a target: what is sure is so while the machine lives, no loss was noticed and only what a target here carries out was asked, Dispose and Exit apart
+jdwp_orders | acts_in_one_order; is_sure_of_suspended_threads_only | While no reply is deferred the model of both ends is such a target: what is sure is so while the machine lives, no loss was noticed and only what a target here carries out was asked
 
 ## The target, over any lawful machine
 
@@ -74,7 +73,7 @@ jdwp_debuggee | Debuggee::step fits unmarked; Debuggee::handshake fits; fits_vm_
 jdwp_target | Target::set_deferring; Target::release releases; answers_what_came | Where it is told to, a target defers commands; each is answered once, as the machine is then, or waits, or is dropped as the session ends
 jdwp_target | visits_what_turns | A Suspend or Resume of all that is not refused, and an event of policy ALL, visit (look up) exactly the threads that they turn from running to suspended or back
 jdwp_target | Target::session ran; goes_on_at_each_call | After any calls a session is a list of messages handled or deferred, releases, steps and one loss at most; bytes in and out are theirs
-jdwp_target | Target::count bound; Target::accept when; Target::feed fed; Target::lose; Target::with_limits threads; TargetOptions::new some | Each other call is one equation on the whole target; a count is at most its limit, 1 to 2,147,483,647; `TooManyThreads` exactly where more threads live than may, of a link, too
+jdwp_target | Target::count bound; Target::accept when; Target::feed fed; Target::lose; Target::with_limits threads; TargetOptions::new some | Each other call is one equation on the whole target; a count is at most its limit, 1 to 2,147,483,647; `TooManyThreads` exactly where more threads live than may
 jdwp_event | matches | A request reports exactly where its kind and each modifier in turn let it, a Count at its n-th reaching
 jdwp_event | gather gathers memory | A composite has the events of all requests that report, by rising id, and the most suspending of their policies; where none does there is none, without memory
 jdwp_event | count_down; Requests::insert; Requests::remove | Each Count reached is counted, whether or not a later modifier passes; requests come and go as named
@@ -86,7 +85,7 @@ jdwp_debugger | Debugger::turn turns few memory | A turn tells and leaves what i
 jdwp_debugger | Debugger::turn answered suspend resume event_thread event_all refused; Debugger::ask packet refused | The same in the standard's words: tickets of answers; what Suspend, Resume and composites leave of the mirror; what an ask puts; a refusal changes nothing
 jdwp_debugger | Debugger::ask ok err | The first refusal that applies, and nothing has changed; else the command leaves under the next free id, encoded, within the limit
 jdwp_debugger | Debugger::session ran mirror; goes_on_at_each_call | After any calls the mirror is what the packets read in the session say, once each and in order, and empty after a refusal, a close or a loss; only IDSizes and the commands asked are sent, under free ids
-jdwp_debugger | Debugger::with_order; Debugger::turn turns | With `Order::Apart` no composite is refused for a count, VM_DEATH counts as asked for, an error with data as its error; the mirror has event requests alone
+jdwp_debugger | Debugger::with_order; Debugger::turn turns | With `Order::Apart` no composite is refused for a count, VM_DEATH counts as asked for, an error with data as its error; the mirror has event requests
 jdwp_debugger | Debugger::is_held value suspended; Debugger::at_least value covered; Debugger::session follows unfollowed; Debugger::named_threads held | A thread that it then holds is suspended, while it lives, in each target whose debugger put and read the same, its count no less than told; and it follows what all that was put and read in the session makes of a watch that knows nobody
 jdwp_debugger | Debugger::session pending distinct parked alone | No more commands wait than may, no two under one id; four composites at most wait for the widths of ids
 jdwp_debugger | Debugger::lose; Debugger::attach when; Debugger::has_front; Debugger::unanswered | A loss answers all tickets that wait, in the order asked; the other calls are one equation each
@@ -114,21 +113,21 @@ jdwp_recording | Direction::come without data; Direction::next some none | Of on
 jdwp_machine | Machine::next; Machine::step; Machine::query memory; Machine lawful | A machine does what its meaning says, which keeps the laws; refusing takes no memory
 jdwp_script | Script::read value; Script::read_with value | A script is exactly the JSON value that the text is, or its first fault is told; want of memory may hide that, and of `detail`, what is told beside it, nothing is proved
 jdwp_script_machine | ScriptMachine::read value live; scripts_are_lawful; scripts_begin_soundly; scripts_go_on | A script's machine is lawful, has a live thread, and can make each step that is left
-jdwp_plan | read_plan; read_attach_plan; reads_each_form | Each line of a plan is read as exactly what it says, or the first that says nothing is told; want of memory hides no fault of a line before
+jdwp_attach | read_plan; read_attach_plan; reads_each_form | Each line of a plan is read as exactly what it says, or the first that says nothing is told; want of memory hides no fault of a line before
 
 ## Sessions over readers and writers, the program
 
 jdwp_engine | serve in_order ended rounds limit at_most | What was read is fed and what was enqueued written, in order, or a beginning where a write failed, and all was flushed before each read; the session is its rounds, what they send reads back, and each way to end comes only for its reason
 jdwp_live | serve_live in_order ended rounds | The same, live: threads step only where a read just before found nothing for as long as steps are apart; one waits for ever only where none can
-jdwp_live_port | serve_live_sessions serves; serve_live_stream | So is each at a port; times are tested
+jdwp_live | serve_live_sessions serves; serve_live_stream | So is each at a port; times are tested
 jdwp_attach | attach_by_lines in_order ended last_flush line | The same of a debugger by a plan: the commands of its lines, in order, and between them a SuspendCount exactly where an event leaves its thread unsure, in `Order::Apart` alone; what is printed is what was told, or a beginning
-jdwp_tell | mirror_text; known_text; answered_line; seen_line | Lines are those of `show`; a mirror is told by its threads, then its requests; in `Order::Apart` each thread that was named, by what is sure
-jdwp_serve | serve_session served; serve_script fault untouched | A new target's session, from what was read to what was written; a script's fault with nothing touched
+jdwp_attach | mirror_text; known_text; answered_line; seen_line | Lines are those of `show`; a mirror is told by its threads, then its requests; in `Order::Apart` each thread that was named, by what is sure
+jdwp_engine | serve_session served; serve_script fault untouched | A new target's session, from what was read to what was written; a script's fault with nothing touched
 jdwp_port | serve_sessions serves closed; serve_stream served; attach_stream ran | Sessions at a port are those of `serve` and `attach`, one after the other with one target, until no thread lives, a session used up its rounds or wanted memory, or the port fails
 jdwp_program | check_capture tells leaves; show_capture tells leaves; attach_session ran; Outcome::of_session; Fault::status status; limits | What the writer took is the verdict, or the lines and the fault; a beginning where a write failed. A plan's session is as `attach` says; how its end is told, with which status; numbers of the command line
-jdwp_words | read runs keeps | Words run a plan only for `attach` or `pair`, and write to no file that they read, by name
+jdwp_files | read runs keeps | Words run a plan only for `attach` or `pair`, and write to no file that they read, by name
 jdwp_files | run bound leaves | The status, 4 at most, says what is on standard output, but for `attach` and `pair`
-jdwp_pipe | write_out; read_and_feed | All that waits is written, in order, or the failure told; one read feeds exactly what came
+jdwp_end | write_out; read_and_feed | All that waits is written, in order, or the failure told; one read feeds exactly what came
 milunovesk_c | mv_free; mv_debugger_new; mv_debugger_turn; mv_debugger_thread told; mv_target_turn; mv_check; mv_command_name | From C ([FOREIGN](FOREIGN.md)): calls do to what a handle keeps what the library's do; one that keeps nothing, or the other kind, is told and left
 jdwp_end | End::front front; End::take_off; finds_first_message; SessionEnd taken_twice | One end, of either kind: each call is one equation on the bytes and the phase
 """
@@ -137,13 +136,13 @@ TAIL = """\
 ## Only tested
 
 - What has no contract of its own: `main`, the programs `both_ends` and `breakpoint_harness`, and the crates of tests.
-- The table of commands, the fields of modifiers and events, and commands by name, against listings of their own.
+- The table of commands, the fields of modifiers and events, and commands by name, against other listings.
 - Texts: the lines of `show` for every command, modifier and event; faults; the words of the command line; what is told of files, ports and outputs that fail.
 - Worked sessions, byte for byte: of a target, a debugger, a link (cut at every place, lost behind each byte), plans over files, ports, memory and a connection.
-- Peers that keep no rule: each fault at both ends; a session with each byte changed to each other value; data cut at each byte; texts a million deep or wide.
-- Each request for memory refused in turn, of each call (`memory_examples`) and command (`bench/refused_memory.py`); that want of memory comes only then, which no contract can say.
-- Sockets and files: what goes through them, 127.0.0.1 alone, options, closing, which errors pass; that a `Loopback` prints as memory does; that no file that is read is emptied under another name; that a lost session is told by its error.
-- That `serve` flushes before a round releases or steps; that `attach` writes its handshake alone before the target's was read; how much is read at once.
+- Peers that keep no rule: each fault at both ends; a session with each byte changed to each value; data cut at each byte; texts a million deep.
+- Each request for memory refused in turn, of each call (`memory_tests`) and command (`bench/refused_memory.py`); that want of memory comes only then, which no contract can say.
+- Sockets, clocks and files: what goes through them, options, closing, which errors pass; the forms of recordings; that a `Loopback` prints as memory does; that no file that is read is emptied under another name; that a lost session is told by its error.
+- That `serve` flushes before a round releases or steps; that `attach` writes its handshake alone before the target's was read.
 
 [README](../README.md#what-is-proved) has what is neither, and what is trusted.
 """

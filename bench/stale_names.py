@@ -13,7 +13,7 @@ import sys
 from pathlib import Path
 
 NAME = re.compile(r"[A-Za-z_][A-Za-z0-9_]*(?:(?:::|\.)[A-Za-z_][A-Za-z0-9_]*)*")
-SOURCES = ("crates", "bench", "examples", "crates.txt", "HANDLES", ".ci", ".gitignore")
+SOURCES = ("crates", "bench", "examples", "foreign", "crates.txt", "HANDLES", ".ci", ".gitignore")
 
 
 def tracked():

@@ -3,11 +3,14 @@
 
 - frames: `mv_next_packet` over a stream of 50,000 commands in memory, 400 times (`frames.c`), and `next_packet` of jdwp_wire by a program that
   stands below, which is proved and built for it;
+- packets: `mv_next_packets` over the same stream, 256 places a call, and the fields read by the functions of milunovesk.h (`packets.c`), and `next_packet` in the same
+  program, 400 times; both add up all fields of each packet's header, and the length and place of its data;
 - both ends: a million SuspendCounts, 64 at a time, asked and answered in one process (`both_ends.c`), and `both_ends bytes` of crates/both_ends, whose commands are
   made of the bytes of their data, too. Beside it, as a thing of its own, `both_ends`, which makes them of items and so reads no bytes;
 - check: `mv_check` of a capture of 64 MB of short packets (`check.c`), and `jdwp check`.
 
-Prints, each the best of seven runs by the processor's time, what C reaches of the speed of Rattle. To reach: 0.9, and `mv_check` 1.
+Prints, each the best of seven runs by the processor's time, what C reaches of the speed of Rattle; and of packets, where valgrind is there, the instructions that each takes,
+which do not change with what else the machine does. To reach: 0.9, of packets by instructions, and `mv_check` 1.
 
     make -C foreign bench && foreign/bench/speed.py
 
@@ -15,6 +18,8 @@ Prints, each the best of seven runs by the processor's time, what C reaches of t
 """
 
 import os
+import re
+import shutil
 import subprocess
 import sys
 import tempfile
@@ -38,7 +43,7 @@ FRAMES = """\
 //! Counts the packets of a stream in memory, again and again.
 #![tactic(auto)]
 
-use jdwp_wire::{Next, next_packet};
+use jdwp_wire::{Next, PacketKind, PacketRef, next_packet};
 use std::env;
 
 /// How many packets stand one behind the other in these bytes.
@@ -58,6 +63,41 @@ fn found(bytes: &[u8]) -> u64 {
     found
 }
 
+/// All that is told of a packet whose data begin at this place, added up.
+fn told(packet: &PacketRef, place: usize) -> u64 {
+    let (kind, set, number, error) = match packet.header.kind {
+        PacketKind::Command { set, number } => (1u64, set, number, 0),
+        PacketKind::Reply { error } => (2, 0, 0, error.0),
+    };
+    kind.wrapping_add(u64::from(set))
+        .wrapping_add(u64::from(number))
+        .wrapping_add(u64::from(error))
+        .wrapping_add(u64::from(packet.header.id))
+        .wrapping_add(u64::from(packet.header.length))
+        .wrapping_add(packet.body.len() as u64)
+        .wrapping_add(place as u64)
+}
+
+/// All that is told of the packets that stand one behind the other in these bytes, added up.
+fn summed(bytes: &[u8]) -> u64 {
+    let mut sum = 0u64;
+    let mut rest = bytes;
+    for _ in 0..bytes.len() {
+        match next_packet(rest) {
+            Next::Whole(packet, used) => {
+                let place = bytes.len().wrapping_sub(rest.len()).wrapping_add(11);
+                sum = sum.wrapping_add(told(&packet, place));
+                match rest.get(used..) {
+                    Some(left) => rest = left,
+                    None => break,
+                }
+            }
+            _ => break,
+        }
+    }
+    sum
+}
+
 fn main(rt: HostRuntime) -> anyhow::Result<()> {
     let packet = [0u8, 0, 0, 19, 0, 0, 0, 1, 0, 11, 12, 0, 0, 0, 0, 0, 0, 0, 1];
     let mut stream = Vec::new(rt.alloc());
@@ -70,8 +110,13 @@ fn main(rt: HostRuntime) -> anyhow::Result<()> {
         for _ in 0..passes.parse::<u32>()? {
             all = all.wrapping_add(found(stream.as_slice()));
         }
+        println!(&rt; "{all} found")?;
+    } else if let [_, _, passes] = words.as_slice() {
+        for _ in 0..passes.parse::<u32>()? {
+            all = all.wrapping_add(summed(stream.as_slice()));
+        }
+        println!(&rt; "{all} in all")?;
     }
-    println!(&rt; "{all} found")?;
     Ok(())
 }
 """
@@ -100,6 +145,16 @@ def seconds(words, says):
     return usage.ru_utime + usage.ru_stime
 
 
+def instructions(words):
+    """The instructions of each packet, by two runs, of which one does nothing but begin and end."""
+    def counted(passes):
+        words_of = ["valgrind", "--tool=callgrind", "--callgrind-out-file=/dev/null", *words, str(passes)]
+        said = subprocess.run(words_of, check=True, stdout=subprocess.DEVNULL, stderr=subprocess.PIPE, text=True).stderr
+        return int(re.search(r"refs: *([0-9,]+)", said)[1].replace(",", ""))
+
+    return (counted(20) - counted(0)) / (20 * 50_000)
+
+
 def compare(name, in_c, in_rattle, says):
     times = [(seconds(in_c, says), seconds(in_rattle, says)) for _ in range(RUNS)]
     c, rattle = (min(it) for it in zip(*times))
@@ -108,7 +163,14 @@ def compare(name, in_c, in_rattle, says):
 
 def main():
     with tempfile.TemporaryDirectory() as folder:
-        compare("frames", [f"{OUT}/bench_frames", str(PASSES)], [frames(folder), str(PASSES)], b"%d found\n" % (50_000 * PASSES))
+        program = frames(folder)
+        compare("frames", [f"{OUT}/bench_frames", str(PASSES)], [program, str(PASSES)], b"%d found\n" % (50_000 * PASSES))
+        # kind, set, number, id, length, length of data, and place of data, of each packet
+        told = PASSES * sum(1 + 11 + 12 + 1 + 19 + 8 + (19 * each + 11) for each in range(50_000))
+        compare("packets", [f"{OUT}/bench_packets", str(PASSES)], [program, "packets", str(PASSES)], b"%d in all\n" % (told % 2**64))
+        if shutil.which("valgrind"):
+            c, rattle = instructions([f"{OUT}/bench_packets"]), instructions([program, "packets"])
+            print(f"packets: {c:.1f} instructions from C, {rattle:.1f} in Rattle: {rattle / c:.2f}", flush=True)
         rounds = str(ROUNDS)
         in_c, in_rattle, says = f"{OUT}/bench_both_ends", f"{ROOT}/crates/both_ends/out/both_ends", b"%d answered\n" % (64 * ROUNDS)
         compare("both ends", [in_c, rounds], [in_rattle, "bytes", rounds], says)

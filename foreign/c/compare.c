@@ -1,6 +1,7 @@
 /* A reader of packets and of captures in plain C, written from the specification of JDWP and docs/CAPTURES.md alone, against mv_next_packet and
  * mv_check: on random bytes both have to read the same packet, and of random captures, most of which go wrong somewhere, to name the same first fault in
- * the same line. No widths of ids are told in these captures, and the commands are of sets that JDWP does not have, so data are not judged. */
+ * the same line. No widths of ids are told in these captures, and the commands are of sets that JDWP does not have, so data are not judged. And of random
+ * bytes mv_next_packets has to tell the places where mv_next_packet finds packets, and the header's own functions to read of them what that tells. */
 #include "milunovesk.h"
 
 #include <stdio.h>
@@ -209,10 +210,53 @@ static bool same_front(void) {
     return out.kind == MV_FRONT_REPLY && out.error == (bytes[9] << 8 | bytes[10]);
 }
 
+enum { ROOM = 6 };
+
+/* Whether the header of the packet here is what mv_next_packet told of it. */
+static bool is_framed(const uint8_t *at, const mv_framed *framed) {
+    if (mv_packet_length(at) != framed->length || mv_packet_id(at) != framed->id) return false;
+    if (mv_packet_is_reply(at)) return framed->kind == MV_FRONT_REPLY && mv_packet_error(at) == framed->error;
+    return framed->kind == MV_FRONT_COMMAND && mv_packet_set(at) == framed->set && mv_packet_number(at) == framed->number;
+}
+
+/* Packets one behind the other in random bytes, most of them whole, told at once and one by one. */
+static bool same_packets(void) {
+    uint8_t bytes[128];
+    size_t size_of = below(sizeof bytes + 1), room = below(ROOM), place = 0;
+    for (size_t at = 0; at < sizeof bytes; at++) bytes[at] = (uint8_t)below(256);
+    for (size_t at = 0; at + 11 <= sizeof bytes;) {
+        bytes[at] = bytes[at + 1] = 0;
+        bytes[at + 2] = below(60) == 0;
+        bytes[at + 3] = (uint8_t)(below(30) ? 11 + below(20) : below(20));
+        bytes[at + 8] = (uint8_t)(below(30) ? below(2) * 128 : below(256));
+        at += bytes[at + 3] < 11 ? 11 : bytes[at + 3];
+    }
+    size_t places[ROOM];
+    mv_found found = {9, 9, 9, 9};
+    for (size_t each = 0; each < ROOM; each++) places[each] = 777;
+    if (mv_next_packets(bytes, size_of, places, room, &found) != MV_DONE || found.count > room) return false;
+    mv_framed framed = {0};
+    for (size_t each = 0; each < found.count; each++) {
+        if (mv_next_packet(bytes + place, size_of - place, &framed) != MV_DONE || (framed.kind != MV_FRONT_COMMAND && framed.kind != MV_FRONT_REPLY)) return false;
+        if (places[each] != place || !is_framed(bytes + place, &framed)) return false;
+        place += framed.length;
+    }
+    for (size_t each = found.count; each < ROOM; each++)
+        if (places[each] != 777) return false;
+    if (mv_next_packet(bytes + place, size_of - place, &framed) != MV_DONE || found.used != place || found.fault != framed.fault) return false;
+    if (framed.kind == MV_FRONT_FAULT) return found.left == MV_LEFT_FAULT;
+    if (framed.kind == MV_FRONT_MORE) return found.left == (place == size_of ? MV_LEFT_NOTHING : MV_LEFT_BEGINNING);
+    return found.left == MV_LEFT_PACKET && found.count == room;
+}
+
 int main(void) {
     for (long round = 0; round < 1000000; round++) {
         if (!same_front()) {
             puts("a packet is read otherwise");
+            return 1;
+        }
+        if (!same_packets()) {
+            puts("packets are told otherwise at once");
             return 1;
         }
     }

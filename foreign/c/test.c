@@ -104,6 +104,24 @@ static void test_packets(void) {
     assert(mv_next_packet(flags, 9, &out) == MV_DONE && out.kind == MV_FRONT_FAULT && out.fault == 3);
 }
 
+/* Where packets begin that stand one behind the other, their headers, and each thing that may be left behind them. */
+static void test_many_packets(void) {
+    const uint8_t both[] = {0, 0, 0, 12, 1, 2, 3, 4, 0, 11, 6, 99, 0, 0, 0, 11, 0, 0, 0, 5, 0x80, 0, 20, 0, 0, 0, 10};
+    size_t places[3] = {7, 7, 7};
+    mv_found found = {0};
+    assert(mv_next_packets(both, 23, places, 3, &found) == MV_DONE);
+    assert(found.count == 2 && found.used == 23 && found.left == MV_LEFT_NOTHING && found.fault == 0);
+    assert(places[0] == 0 && places[1] == 12 && places[2] == 7);
+    const uint8_t *command = both + places[0], *reply = both + places[1];
+    assert(mv_packet_length(command) == 12 && mv_packet_id(command) == 0x01020304 && !mv_packet_is_reply(command));
+    assert(mv_packet_set(command) == 11 && mv_packet_number(command) == 6);
+    assert(mv_packet_length(reply) == 11 && mv_packet_id(reply) == 5 && mv_packet_is_reply(reply) && mv_packet_error(reply) == 20);
+    assert(mv_next_packets(both, 26, places, 3, &found) == MV_DONE && found.count == 2 && found.used == 23 && found.left == MV_LEFT_BEGINNING);
+    assert(mv_next_packets(both, 27, places, 2, &found) == MV_DONE && found.count == 2 && found.used == 23 && found.left == MV_LEFT_FAULT && found.fault == 1);
+    assert(mv_next_packets(both, 23, places, 1, &found) == MV_DONE && found.count == 1 && found.used == 12 && found.left == MV_LEFT_PACKET && found.fault == 0);
+    assert(mv_next_packets(both, 0, places, 0, &found) == MV_DONE && found.count == 0 && found.used == 0 && found.left == MV_LEFT_NOTHING);
+}
+
 /* What a call for a text answers: `which` 0 a command's name, 1 an error code's, 2 a fault in words. */
 static uint32_t text_of(int which, uint8_t set, uint16_t number, uint8_t *out, size_t room, size_t *needed) {
     if (which == 0) return mv_command_name(set, (uint8_t)number, out, room, needed);
@@ -405,6 +423,7 @@ int main(void) {
     test_empty(none);
     test_kinds();
     test_packets();
+    test_many_packets();
     test_texts();
     test_captures();
     test_scripts();

@@ -1,7 +1,8 @@
 /* Milunovesk: both ends of Java Debug Wire Protocol sessions (JDWP, Java SE 11), without IO, for C and for what calls C.
  *
  * A handle keeps a debugger, or a target that runs a machine script. Bytes that came go in by a feed, a turn handles one message of them,
- * and bytes that are to be sent come out by a take. Each call does what its Rattle function is proved to do, `crates/milunovesk_c`.
+ * and bytes that are to be sent come out by a take. Each call does what its Rattle function is proved to do, `crates/milunovesk_c`; the
+ * functions that have a body here are plain C, and tested.
  *
  * What the caller owes; nothing checks it, and the proofs rest on it:
  *   - a handle is all zero (`mv_handle h = {0};`) or as the last call left it. It is not written, and not copied and then used as two;
@@ -18,7 +19,7 @@
  * new one at a live handle answers MV_LIVE, a call at a handle of the other kind answers MV_OTHER_KIND; each changes nothing. A refused
  * allocation answers MV_NO_MEMORY, and nothing has changed. No bytes from a peer, and no text, are too bad to be given to a call.
  *
- * Each call but mv_free and mv_version answers one of the numbers below. What it tells beside is all zero, and a buffer is as it was, where it
+ * Each call but mv_free, mv_version and those with a body answers one of the numbers below. What it tells beside is all zero, and a buffer is as it was, where it
  * answers another number than MV_DONE, unless its comment says otherwise.
  *
  * Faults, by the numbers that the repository's programs print:
@@ -97,6 +98,51 @@ typedef struct {
 
 /* Tells which packet stands in front of the bytes, behind the handshakes. What follows it is not looked at. Always MV_DONE. */
 uint32_t mv_next_packet(const uint8_t *bytes, size_t length, mv_framed *out);
+
+/* What is left behind packets. */
+enum {
+    MV_LEFT_NOTHING = 0,   /* no bytes: the packets are all of them */
+    MV_LEFT_BEGINNING = 1, /* the beginning of a packet: it calls for more bytes */
+    MV_LEFT_PACKET = 2,    /* a packet, for whose place there is no room */
+    MV_LEFT_FAULT = 3      /* the beginning of no packet */
+};
+
+typedef struct {
+    size_t count;   /* how many packets there are places of */
+    size_t used;    /* how many bytes they take: what is left begins there */
+    uint8_t left;
+    uint16_t fault; /* at MV_LEFT_FAULT why, 1 to 3 as mv_next_packet has it; else 0 */
+} mv_found;
+
+/* Tells the places where packets begin that stand one behind the other in front of the bytes, behind the handshakes: of all of them, or of the first
+ * `room`. The first place is 0, each other is where the packet before it ends, and at each mv_next_packet tells a command or a reply. Writes `places`
+ * from the front, `count` of them, and leaves those behind as they were, which hold a value each before. At MV_LEFT_PACKET `count` is `room`.
+ * Takes no memory. Always MV_DONE. */
+uint32_t mv_next_packets(const uint8_t *bytes, size_t length, size_t *places, size_t room, mv_found *out);
+
+/* A number of four bytes, the highest first. */
+static inline uint32_t mv_four_bytes(const uint8_t *at) {
+    return (uint32_t)at[0] << 24 | (uint32_t)at[1] << 16 | (uint32_t)at[2] << 8 | at[3];
+}
+
+/* The length of a packet, its header's 11 bytes among them: its data are behind the header. Reads the header of a whole packet, which begins at `at`:
+ * the front of the bytes and a place that mv_next_packets told. */
+static inline uint32_t mv_packet_length(const uint8_t *at) { return mv_four_bytes(at); }
+
+/* The id. Reads the header of a whole packet, at a place that was told. */
+static inline uint32_t mv_packet_id(const uint8_t *at) { return mv_four_bytes(at + 4); }
+
+/* Whether it is a reply, and else a command. Reads the header of a whole packet, at a place that was told. */
+static inline bool mv_packet_is_reply(const uint8_t *at) { return at[8] != 0; }
+
+/* The set of a command; of a reply it means nothing. Reads the header of a whole packet, at a place that was told. */
+static inline uint8_t mv_packet_set(const uint8_t *at) { return at[9]; }
+
+/* The number of a command in its set; of a reply it means nothing. Reads the header of a whole packet, at a place that was told. */
+static inline uint8_t mv_packet_number(const uint8_t *at) { return at[10]; }
+
+/* The error code of a reply, 0 for none; of a command it means nothing. Reads the header of a whole packet, at a place that was told. */
+static inline uint16_t mv_packet_error(const uint8_t *at) { return (uint16_t)(at[9] << 8 | at[10]); }
 
 /* ---- names and texts, which are not ended by a zero: `needed` is how many bytes they have */
 

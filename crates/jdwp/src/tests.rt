@@ -473,13 +473,16 @@ static RECORDINGS: [[u8; 4]; 5] = [
 ];
 
 #[test]
-fn a_recording_is_no_capture(rt: HostRuntime) {
-    let text =
-        "recording: a recording of the network, as tcpdump writes it, and no capture: docs/CAPTURES.md says how to make one from it\n";
+fn a_recording_that_is_cut_off_gives_no_capture(rt: HostRuntime) {
+    let text = "recording: fault 73: the file ends in the midst of what follows packet 0\n";
     for bytes in RECORDINGS.iter() {
         write(&rt, "recording", bytes);
         is_no_capture(&rt, "recording", text);
+        assert!(rt; is_refused(&rt, &["capture", "recording"], &[text]));
     }
+    let text = "recording: fault 71: a file that begins neither as pcap nor as pcapng\n";
+    write(&rt, "recording", b"> 4a\n");
+    assert!(rt; is_refused(&rt, &["capture", "recording"], &[text]));
     remove(&rt, &["recording"]);
 }
 

@@ -146,14 +146,14 @@ fn other_words_are_refused(rt: HostRuntime) {
 }
 
 /// Words that are refused, with a space between them, and the texts that are told, with a `|`.
-static HELP: [(&str, &str); 22] = [
+static HELP: [(&str, &str); 24] = [
     (
         "",
-        "error: 'jdwp' requires a subcommand but one was not provided|show, check, serve-script, attach|Usage: jdwp ",
+        "error: 'jdwp' requires a subcommand but one was not provided|show, check, capture, serve-script, attach|Usage: jdwp ",
     ),
     (
         "--help",
-        "Ends of the Java Debug Wire Protocol|Usage: jdwp |\n  show |\n  check |\n  serve-script |\n  attach |--help",
+        "Ends of the Java Debug Wire Protocol|Usage: jdwp |\n  show |\n  check |\n  capture |\n  serve-script |\n  attach |--help",
     ),
     (
         "serve-script --help",
@@ -169,6 +169,14 @@ static HELP: [(&str, &str); 22] = [
     ),
     ("show --help", "Shows a capture|Usage: |<FILE>"),
     ("check --help", "Judges a capture|Usage: |<FILE>"),
+    (
+        "capture --help",
+        "Makes the capture|Usage: jdwp capture |<FILE>|--target-port <N>|--stream <N>|[default: 1]",
+    ),
+    (
+        "capture f --stream 0",
+        "error: |'--stream <N>'|Usage: jdwp capture ",
+    ),
     ("shows", "error: unrecognized subcommand 'shows'|Usage: "),
     ("show", "error: |<FILE>|Usage: "),
     (
@@ -250,7 +258,7 @@ fn the_version_is_printed(rt: HostRuntime) {
 #[test]
 fn usage_names_the_program(rt: HostRuntime) {
     for words in [["/opt/jdwp-1/bin/run", "--help"], ["run", "attach"]] {
-        let Err(Fault::Words(told)) = jdwp_words::read(rt.alloc(), &words) else {
+        let Err(Fault::Words(told)) = jdwp_files::read(rt.alloc(), &words) else {
             panic!(&rt; "words that are refused");
         };
         assert!(&rt; told.as_str().find("Usage: jdwp ").is_some());
@@ -277,7 +285,7 @@ static DEFAULTS_OF_ATTACH: [(&[&str], Order, u32); 4] = [
 
 /// The words are read so.
 fn are_read(rt: &impl Abort, alloc: Global, words: &[&str], want: &Words<'_>) {
-    let found = jdwp_words::read(alloc, words).expect(rt, "words that read");
+    let found = jdwp_files::read(alloc, words).expect(rt, "words that read");
     expect_same_for(rt, &found, want, &words);
 }
 

@@ -151,7 +151,7 @@ asks-debugger m settings w s acts old new c ticket laws b free-to-ask given h sa
 -- ---- what says nothing of a world
 
 -- what was read last, and which id the next packet has
-abbrev another : List Head → ℕ → Debugger → Debugger
+abbrev pub another : List Head → ℕ → Debugger → Debugger
 another last id d = record d { last = last; next_id = id }
 
 parts-another : {S : Type 0} (m : Meaning S) (settings : Settings) (w : Widths) (t : Target S) (d : Debugger) (x : World S) (last : List Head) (id : ℕ) → Parts m settings w (joined t d) x
@@ -173,7 +173,7 @@ parts-another m settings w t d x last id s = record {
 }
 
 -- an act that changes nothing else
-stays-another : {S : Type 0} (m : Meaning S) (settings : Settings) (w : Widths) (s : S) (acts : List Act) (old new : Programs S) (a : Act) (last : List Head) (id : ℕ) → Standing m settings w s acts old
+pub stays-another : {S : Type 0} (m : Meaning S) (settings : Settings) (w : Widths) (s : S) (acts : List Act) (old new : Programs S) (a : Act) (last : List Head) (id : ℕ) → Standing m settings w s acts old
     → events_of a ≡ [] → told_by a ≡ [] → new.target ≡ old.target → new.debugger ≡ another last id old.debugger → Stands m settings w s (acts ++ a ∷ []) new
 stays-another m settings w s acts old new a last id b none told same_t is =
     let t = old.target in
@@ -299,7 +299,7 @@ reads-so (streams.Packet header body) used old r after h = h
 abbrev answers : Read → Result Read DebuggerFault
 answers r = Ok r
 
-none-read : (r : Read) → answers r ≡ answers reading.Nothing → r ≡ reading.Nothing
+pub none-read : (r : Read) → answers r ≡ answers reading.Nothing → r ≡ reading.Nothing
 none-read r h = cc
 
 read-none : {S : Type 0} (m : Meaning S) (settings : Settings) (w : Widths) (s : S) (acts : List Act) (old new : Programs S) (r : Read) (lost : List Ticket) (after : Debugger) → Standing m settings w s acts old → front_of old.debugger.end ≡ More

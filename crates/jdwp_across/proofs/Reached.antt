@@ -21,7 +21,7 @@ use Rattle.jdwp_across.specs.Standing.{IsReachedBy, uncounted, unmeasured}
 
 -- ---- one act more
 
-events-more : (acts : List Act) (act : Act) → events_in (acts ++ act ∷ []) ≡ events_in acts ++ events_of act
+pub events-more : (acts : List Act) (act : Act) → events_in (acts ++ act ∷ []) ≡ events_in acts ++ events_of act
 events-more [] act = append-nil (events_of act)
 events-more (a ∷ acts) act = ap (λ es. events_of a ++ es) (events-more acts act) ∙ sym (append_assoc (events_of a) (events_in acts) (events_of act))
 
@@ -29,7 +29,7 @@ told-more : (acts : List Act) (act : Act) → told_in (acts ++ act ∷ []) ≡ t
 told-more [] act = append-nil (told_by act)
 told-more (a ∷ acts) act = ap (λ os. told_by a ++ os) (told-more acts act) ∙ sym (append_assoc (told_by a) (told_in acts) (told_by act))
 
-run-append : {S : Type 0} (m : Meaning S) (settings : Settings) (measure : Measure) (x : World S) (before es : List LinkEvent)
+pub run-append : {S : Type 0} (m : Meaning S) (settings : Settings) (measure : Measure) (x : World S) (before es : List LinkEvent)
     → run m settings measure x (before ++ es) ≡ run m settings measure (run m settings measure x before) es
 run-append m settings measure x [] es = refl
 run-append m settings measure x (e ∷ before) es = run-append m settings measure (next m settings measure x e).0 before es

@@ -9,7 +9,7 @@ use Rattle.jdwp_model.specs.Tickets.{SettlesOnce}
 use Rattle.jdwp_model.specs.World.{opening}
 use Rattle.jdwp_link.specs.Laws.{Laws}
 use Rattle.jdwp_link.specs.Stands.{Parts}
-use Rattle.jdwp_across.specs.Headline.{HoldsAcross, MayStart, SuspendsWhatIsHeld}
+use Rattle.jdwp_across.specs.Headline.{HoldsAcross, MayRelyOn, MayStart, SuspendsWhatIsHeld}
 use Rattle.jdwp_across.specs.Merges.{Agrees, Merged, More, Start}
 use Rattle.jdwp_across.specs.Programs.{Act, ComesToDebugger, ComesToTarget, Connects, DebuggerAsks, DebuggerLoses, DebuggerNumbers, DebuggerTurns, Does, LeavesDebugger, LeavesTarget, Programs, TargetDefers, TargetLoses, TargetReleases, TargetSteps, TargetTurns, new_programs}
 use Rattle.jdwp_across.specs.Standing.{joined}
@@ -41,7 +41,7 @@ opening-parts m settings s id = record {
   from = record { wires = []; packets = refl; sent = tt; cut = record { number = omega arith; there = λ o. refl; left = refl }; kept = λ o. refl; awaits = λ o. absurd (cc) };
 }
 
-opening-stands : {S : Type 0} (m : Meaning S) (settings : Settings) (s : S) (id : ℕ) → MayStart m settings s id → Standing m settings (m.sizes s) s [] (new_programs m settings s id)
+pub opening-stands : {S : Type 0} (m : Meaning S) (settings : Settings) (s : S) (id : ℕ) → MayStart m settings s id → Standing m settings (m.sizes s) s [] (new_programs m settings s id)
 opening-stands m settings s id start = record {
   world = opening m s;
   stands = record { reached = record { begins = start.begins; is = refl; tells = refl }; parts = opening-parts m settings s id };
@@ -51,7 +51,7 @@ opening-stands m settings s id start = record {
 
 -- ---- an act
 
-leads-on : {S : Type 0} (m : Meaning S) (settings : Settings) (w : Widths) (s : S) (acts : List Act) (act : Act) (old new : Programs S) → Laws m → Standing m settings w s acts old → Agrees new → Does m act old new → Stands m settings w s (acts ++ act ∷ []) new
+pub leads-on : {S : Type 0} (m : Meaning S) (settings : Settings) (w : Widths) (s : S) (acts : List Act) (act : Act) (old new : Programs S) → Laws m → Standing m settings w s acts old → Agrees new → Does m act old new → Stands m settings w s (acts ++ act ∷ []) new
 leads-on m settings w s acts Connects old new laws b then (shut, unheard, lives, is) = connects m settings w s acts old new laws b shut unheard lives is
 leads-on m settings w s acts (ComesToTarget bytes) old new laws b then is = comes-to-target m settings w s acts old new bytes b then is
 leads-on m settings w s acts (LeavesTarget bytes) old new laws b then is = leaves-target m settings w s acts old new bytes b is
@@ -76,10 +76,10 @@ standing m settings w s first acts v laws b (More before act old new merged does
     let after = leads-on m settings w s before act old new laws h agrees does in
     record { world = after.world; stands = after.stands; keeps = act-keeps m act old new does h.keeps; agrees = agrees }
 
-pub holds-across : {S : Type 0} (m : Meaning S) → Laws m → SettlesOnce m → TellsWhatWasGiven m → HoldsAcross m
-holds-across m laws once given settings s id acts v start merged =
+-- what holds where both stand
+pub relies-on : {S : Type 0} (m : Meaning S) → Laws m → SettlesOnce m → TellsWhatWasGiven m → (settings : Settings) (s : S) (acts : List Act) (v : Programs S) → Standing m settings (m.sizes s) s acts v → MayRelyOn m settings s acts v
+relies-on m laws once given settings s acts v h =
     let w = m.sizes s in
-    let h = standing m settings w s (new_programs m settings s id) acts v laws (opening-stands m settings s id start) merged in
     let x = h.world in
     let l = joined v.target v.debugger in
     let r = h.stands.reached in
@@ -98,6 +98,10 @@ holds-across m laws once given settings s id acts v start merged =
         debugger = λ f after so. debugger-fails m settings w s acts v f after laws h so;
       };
     }
+
+pub holds-across : {S : Type 0} (m : Meaning S) → Laws m → SettlesOnce m → TellsWhatWasGiven m → HoldsAcross m
+holds-across m laws once given settings s id acts v start merged =
+    relies-on m laws once given settings s acts v (standing m settings (m.sizes s) s (new_programs m settings s id) acts v laws (opening-stands m settings s id start) merged)
 
 pub suspends-what-is-held : {S : Type 0} (m : Meaning S) → HoldsAcross m → SuspendsWhatIsHeld m
 suspends-what-is-held m holds settings s id acts target debugger t start merged held alive unlost none unresumed =

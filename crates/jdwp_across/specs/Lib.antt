@@ -2,4 +2,12 @@ pub mod Programs
 pub mod Merges
 pub mod Standing
 pub mod Headline
+pub mod Apart
 pub mod Worked
+pub mod Acting
+pub mod Running
+pub mod Meeting
+pub mod RunsHeadline
+pub mod OwnLimits
+pub mod OwnRuns
+pub mod WorkedLimits

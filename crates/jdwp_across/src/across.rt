@@ -1,7 +1,7 @@
 //! What a debugger may rely on where the target is in another program, over every connection: each function is a theorem, and does nothing.
 ghost use Rattle.jdwp_across.specs.Headline.{HoldsAcross, SuspendsWhatIsHeld};
 
-use crate::laws::laws;
+use crate::laws;
 use jdwp_machine::Machine;
 
 /// After every list of acts of a target and a debugger in two programs, where each end was fed a beginning of what the other had put by then:
@@ -13,7 +13,7 @@ use jdwp_machine::Machine;
 pub fn holds_in_two_programs<M: Machine>()
     ensures { HoldsAcross M.meaning }
 {
-    laws::<M>();
+    laws::of_sessions::<M>();
     jdwp_model::settles_each_command_once::<M>();
     jdwp_model::tells_what_was_given::<M>();
 }

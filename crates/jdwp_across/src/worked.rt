@@ -1,6 +1,7 @@
 //! Merges that were worked out by hand. The theorems don't rest on them.
 ghost use Rattle.jdwp_across.specs.Headline.{MayStart};
 ghost use Rattle.jdwp_across.specs.Worked.{MergesAsWorked};
+ghost use Rattle.jdwp_across.specs.WorkedLimits.{StartsAsWorked};
 ghost use Rattle.jdwp_model.specs.WorkedMachine.{settings, small, small_opening};
 
 /// There are merges: of no acts, and of a session that begins at both ends; the target handles the debugger's handshake, which came in two
@@ -10,6 +11,14 @@ ghost use Rattle.jdwp_model.specs.WorkedMachine.{settings, small, small_opening}
 pub fn merges_as_worked_out()
     ensures start { MayStart small settings small_opening 1 }
     ensures merges { MergesAsWorked }
+{
+    jdwp_model::worked_machine_is_lawful();
+}
+
+/// Programs whose limits differ may start: a debugger that takes longer packets than the target, lets more commands wait, and has less room for
+/// all that the target alone counts; a session begins at both; and what asks for breakpoints fits the target.
+pub fn own_limits_as_worked_out()
+    ensures { StartsAsWorked }
 {
     jdwp_model::worked_machine_is_lawful();
 }

@@ -1,4 +1,4 @@
-//! Laws of the definitions, each the contract of a function without a body.
+//! Laws: each function says what holds, in its contract, and does nothing; to call it is to cite it.
 ghost use Rattle.std.specs.Prelude.{◌≡◌};
 ghost use Rattle.jdwp_action.specs.Actions.{Command, about, action_of, thread_of};
 

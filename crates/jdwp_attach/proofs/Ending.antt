@@ -18,20 +18,20 @@ use Rattle.jdwp_debugger.specs.Asking.{HasAsked, IsRefusal, refusal_of_ask}
 use Rattle.jdwp_debugger.specs.RefusedNumbers.{refused_number}
 use Rattle.jdwp_debugger.specs.Debuggers.{Debugger, attached, has_tickets, lost_debugger, with_taken}
 use Rattle.jdwp_debugger.specs.DebuggerTurns.{TurnsAt, refused}
-use Rattle.jdwp_pipe.specs.declared.ended.Ended.{Ended}
-use Rattle.jdwp_pipe.specs.declared.ended.Ended.TheVariants.{Done, LostByRead, LostByWrite, Refused, NoMemory, TurnLimit}
-use Rattle.jdwp_pipe.specs.Endings.{unflushed_end}
-use Rattle.jdwp_pipe.specs.Story.{FailsFlush, FailsRead, FailsWrite, Story, flushed, with_written}
-use Rattle.jdwp_plan.specs.declared.plan_line.PlanLine.{PlanLine}
-use Rattle.jdwp_plan.specs.declared.plan_line.PlanLine.TheVariants as line
-use Rattle.jdwp_plan.specs.Lines.{is_of_pair}
-use Rattle.jdwp_plan.specs.PlanLines.{said_by}
+use Rattle.jdwp_end.specs.declared.pipes.ended.Ended.{Ended}
+use Rattle.jdwp_end.specs.declared.pipes.ended.Ended.TheVariants.{Done, LostByRead, LostByWrite, Refused, NoMemory, TurnLimit}
+use Rattle.jdwp_end.specs.Endings.{unflushed_end}
+use Rattle.jdwp_end.specs.Story.{FailsFlush, FailsRead, FailsWrite, Story, flushed, with_written}
+use Rattle.jdwp_attach.specs.declared.plans.plan_line.PlanLine.{PlanLine}
+use Rattle.jdwp_attach.specs.declared.plans.plan_line.PlanLine.TheVariants as line
+use Rattle.jdwp_attach.specs.Lines.{is_of_pair}
+use Rattle.jdwp_attach.specs.PlanLines.{said_by}
 use Rattle.jdwp_attach.specs.OwnCounts.{Line, due_behind}
 use Rattle.jdwp_attach.specs.PlanAsks.{IsBeginning, Stands, asks, command_asked}
 use Rattle.jdwp_attach.specs.PlanRuns.{Attaches, Leaves, Stays, EndsFailed, EndsRefused, EndsSo, HasLeft, IsAsk, LineEndsSo, MayEnd, ReadsEnd, RefusesBy, RefusesCommand, RefusesLineAt, TakesMemory, Tells, TellsInOrder, TellsPart, WantsMemory, WantsToAsk, WantsToTell, told_number, unflushed_debugger}
 use Rattle.jdwp_attach.specs.PlanWaits.{Awaits}
 use Rattle.jdwp_attach.specs.Runs.{AsksInOrder, FailsLastFlush, Finishes, InOrder, IsGoing, LosesAtRead, LosesAtWrite, Reaches, ReachesBy, RunSteps, Standing, at}
-use Rattle.jdwp_tell.specs.Telling.{TellsKnown}
+use Rattle.jdwp_attach.specs.Telling.{TellsKnown}
 use Rattle.jdwp_attach.proofs.Moves.{asked-moves, asked-passes, begins-all, begins-behind, begins-line, begins-none, line-split, printed-again, written-none}
 use Rattle.jdwp_attach.proofs.Reached.{along-all, along-taken, are-line, are-none, hello-reached, hello-reached-all, reach-passed, reach-same, reach-untold}
 use Rattle.jdwp_attach.proofs.Stages.{asks-append, one-asked, puts-same, stands-asked, stands-known, stands-puts}

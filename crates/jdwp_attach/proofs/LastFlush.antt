@@ -1,13 +1,13 @@
 -- What the last flush of a run leaves where it fails.
 use Rattle.std.proofs.Common.{◌≡◌, ◌∙◌, ℕ, ◌<◌, ◌≤◌, ◌+◌, ◌++◌, ◌&&◌, ◌⊎◌, List, ◌∷◌, Bool, IsTrue, true, false, Ok, inl, inr, sym, ap, refl, subst, arith}
 use Rattle.jdwp_debugger.specs.Debuggers.{Debugger, lost_debugger}
-use Rattle.jdwp_pipe.specs.declared.ended.Ended.{Ended}
-use Rattle.jdwp_pipe.specs.declared.ended.Ended.TheVariants.{Done, LostByRead, LostByWrite, Refused, NoMemory, TurnLimit}
-use Rattle.jdwp_pipe.specs.Story.{FailsFlush, Story, flushed}
-use Rattle.jdwp_plan.specs.declared.plan_line.PlanLine.{PlanLine}
+use Rattle.jdwp_end.specs.declared.pipes.ended.Ended.{Ended}
+use Rattle.jdwp_end.specs.declared.pipes.ended.Ended.TheVariants.{Done, LostByRead, LostByWrite, Refused, NoMemory, TurnLimit}
+use Rattle.jdwp_end.specs.Story.{FailsFlush, Story, flushed}
+use Rattle.jdwp_attach.specs.declared.plans.plan_line.PlanLine.{PlanLine}
 use Rattle.jdwp_attach.specs.PlanRuns.{HasLeftOrFails, IsFinished, MayEnd, ReadsEnd, Tells, TellsInOrder, TellsPart, WantsMemory, WantsTurn}
 use Rattle.jdwp_attach.specs.Runs.{FailsLastFlush, FlushesOrFails, InOrder, ReachesBy, Standing}
-use Rattle.jdwp_tell.specs.Telling.{lines_of}
+use Rattle.jdwp_attach.specs.Telling.{lines_of}
 use Rattle.jdwp_attach.proofs.Moves.{begins-all}
 use Rattle.jdwp_attach.proofs.Reached.{along-all, along-turned}
 use Rattle.jdwp_attach.proofs.Ending.{Same, asks-same, same-by, same-lost, tells-part}

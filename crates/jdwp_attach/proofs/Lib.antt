@@ -6,3 +6,7 @@ pub mod Reached
 pub mod RefusedLines
 pub mod Stages
 pub mod Turned
+mod Named
+pub mod FormLaws
+pub mod NumberLaws
+pub mod PlanLaws

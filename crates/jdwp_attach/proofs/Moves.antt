@@ -9,7 +9,7 @@ use Rattle.jdwp_wire.specs.Widths.{Widths}
 use Rattle.jdwp_watch.specs.Ledgers.{Account}
 use Rattle.jdwp_debugger.specs.FollowingKept.{following_by}
 use Rattle.jdwp_debugger.specs.Holding.{named_in}
-use Rattle.jdwp_mirror.specs.CommandKinds.{id_found}
+use Rattle.jdwp_event.specs.Told.{id_found}
 use Rattle.std.specs.Borrow.{Bor}
 use Rattle.jdwp_action.specs.Actions.{Command}
 use Rattle.jdwp_debugger.specs.declared.pending.Ticket.{Ticket}
@@ -17,15 +17,15 @@ use Rattle.jdwp_debugger.specs.Debuggers.{Asked, Debugger, Unanswered, and_then,
 use Rattle.jdwp_debugger.specs.DebuggerTurns.{TurnsAt}
 use Rattle.jdwp_debugger.specs.declared.turning.Read.{Read}
 use Rattle.jdwp_debugger.specs.declared.turning.Read.TheVariants as read
-use Rattle.jdwp_pipe.specs.Story.{Story, flushed, with_written}
-use Rattle.jdwp_plan.specs.declared.plan_line.PlanLine.{PlanLine}
-use Rattle.jdwp_plan.specs.declared.plan_line.PlanLine.TheVariants as line
+use Rattle.jdwp_end.specs.Story.{Story, flushed, with_written}
+use Rattle.jdwp_attach.specs.declared.plans.plan_line.PlanLine.{PlanLine}
+use Rattle.jdwp_attach.specs.declared.plans.plan_line.PlanLine.TheVariants as line
 use Rattle.jdwp_attach.specs.OwnCounts.{AreSteps, AsksDue, Count, Line, Step, suspend_count}
 use Rattle.jdwp_attach.specs.PlanAsks.{IsBeginning, Stands, asks, asks_of}
 use Rattle.jdwp_attach.specs.PlanRuns.{IsAsk, LineGoesOn}
 use Rattle.jdwp_attach.specs.PlanWaits.{Awaits, HandlesFewer, IsNextLine, IsThere}
 use Rattle.jdwp_attach.specs.Runs.{IsAtAnswers, IsGoing, IsReady, Reaches, ReadsMore, Standing, TellsLine, at}
-use Rattle.jdwp_tell.specs.Telling.{lines_of}
+use Rattle.jdwp_attach.specs.Telling.{lines_of}
 use Rattle.jdwp_attach.proofs.Reached.{are-line, reach-all, reach-asked, reach-fed, reach-passed}
 use Rattle.jdwp_attach.proofs.Stages.{asks-append, one-asked, stands-line}
 use Rattle.jdwp_attach.proofs.Turned.{Moves}

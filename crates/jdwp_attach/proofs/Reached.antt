@@ -13,12 +13,12 @@ use Rattle.jdwp_debugger.specs.declared.turning.Read.TheVariants as read
 use Rattle.jdwp_debugger.specs.Asking.{HasAsked, refusal_of_ask}
 use Rattle.jdwp_debugger.specs.Debuggers.{Debugger, with_fed, with_taken}
 use Rattle.jdwp_debugger.specs.DebuggerTurns.{Told, TurnsAt, read_meaning}
-use Rattle.jdwp_plan.specs.declared.plan_line.PlanLine.{PlanLine}
+use Rattle.jdwp_attach.specs.declared.plans.plan_line.PlanLine.{PlanLine}
 use Rattle.jdwp_attach.specs.OwnCounts.{AreSteps, AsksDue, Count, Line, Step, due_behind, due_count, due_in, planned}
 use Rattle.jdwp_attach.specs.PlanAsks.{asks}
 use Rattle.jdwp_attach.specs.PlanWaits.{Awaits, IsThere}
 use Rattle.jdwp_attach.specs.Runs.{Reaches, ReachesBy, TellsLine, Begins, Turns, Asks, Feeds, Takes, Passes}
-use Rattle.jdwp_tell.specs.Telling.{lines_of}
+use Rattle.jdwp_attach.specs.Telling.{lines_of}
 use Rattle.jdwp_attach.proofs.Turned.{turned-order}
 
 -- ---- steps

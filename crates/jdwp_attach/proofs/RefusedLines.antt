@@ -11,13 +11,13 @@ use Rattle.jdwp_debugger.specs.declared.faults.DebuggerFault.TheVariants as code
 use Rattle.jdwp_debugger.specs.Asking.{IsRefusal, refusal_of_ask}
 use Rattle.jdwp_debugger.specs.RefusedNumbers.{refused_number}
 use Rattle.jdwp_debugger.specs.Debuggers.{Debugger, lost_debugger}
-use Rattle.jdwp_pipe.specs.declared.ended.Ended.{Ended}
-use Rattle.jdwp_pipe.specs.declared.ended.Ended.TheVariants.{Done, LostByRead, LostByWrite, Refused, NoMemory, TurnLimit}
-use Rattle.jdwp_pipe.specs.Story.{Story, flushed}
-use Rattle.jdwp_plan.specs.declared.plan_line.PlanLine.{PlanLine}
-use Rattle.jdwp_plan.specs.declared.plan_line.PlanLine.TheVariants as line
-use Rattle.jdwp_plan.specs.Lines.{is_of_pair}
-use Rattle.jdwp_plan.specs.PlanLines.{said_by}
+use Rattle.jdwp_end.specs.declared.pipes.ended.Ended.{Ended}
+use Rattle.jdwp_end.specs.declared.pipes.ended.Ended.TheVariants.{Done, LostByRead, LostByWrite, Refused, NoMemory, TurnLimit}
+use Rattle.jdwp_end.specs.Story.{Story, flushed}
+use Rattle.jdwp_attach.specs.declared.plans.plan_line.PlanLine.{PlanLine}
+use Rattle.jdwp_attach.specs.declared.plans.plan_line.PlanLine.TheVariants as line
+use Rattle.jdwp_attach.specs.Lines.{is_of_pair}
+use Rattle.jdwp_attach.specs.PlanLines.{said_by}
 use Rattle.jdwp_attach.specs.declared.attached.Attached.{Attached}
 use Rattle.jdwp_attach.specs.declared.attached.Attached.TheVariants as run
 use Rattle.jdwp_attach.specs.PlanAsks.{command_asked}

@@ -33,8 +33,8 @@ use Rattle.jdwp_mirror.specs.Messages.{Reply, Report, id_sizes}
 use Rattle.jdwp_mirror.specs.Mirror.{ends}
 use Rattle.jdwp_debugger.specs.News.{EIGHT, News, Waits, Happens, Answers, Measures, Reading, answer_says, event_says, event_says_by, place_of, reply_at, reply_to, says, sizes_say, unless_bad, answer_by, widths_by, with_composites, composites_in}
 use Rattle.jdwp_mirror.specs.Widths.{widths_in}
-use Rattle.jdwp_plan.specs.declared.plan_line.PlanLine.{PlanLine}
-use Rattle.jdwp_plan.specs.declared.plan_line.PlanLine.TheVariants as line
+use Rattle.jdwp_attach.specs.declared.plans.plan_line.PlanLine.{PlanLine}
+use Rattle.jdwp_attach.specs.declared.plans.plan_line.PlanLine.TheVariants as line
 use Rattle.jdwp_attach.specs.OwnCounts.{AsksDue, Count, Line, Step, suspend_count}
 use Rattle.jdwp_attach.specs.PlanAsks.{CountsIds, HasPut, HasPutNone, IsNthId, KnowsSizes, PutsStep, PutsSteps, Stands, asks, asks_of, command_asked, step_asks}
 use Rattle.jdwp_attach.specs.PlanRuns.{IsAsk}

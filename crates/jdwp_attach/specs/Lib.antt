@@ -3,3 +3,8 @@ pub mod PlanAsks
 pub mod PlanRuns
 pub mod PlanWaits
 pub mod Runs
+pub mod Telling
+pub mod Forms
+pub mod Lines
+pub mod PlanLines
+pub mod Plans

@@ -14,7 +14,7 @@ use Rattle.jdwp_debugger.specs.Debuggers.{Debugger}
 use Rattle.jdwp_debugger.specs.DebuggerTurns.{Told, Seen, read_meaning}
 use Rattle.jdwp_debugger.specs.FollowingKept.{following}
 use Rattle.jdwp_debugger.specs.Holding.{is_held}
-use Rattle.jdwp_plan.specs.declared.plan_line.PlanLine.{PlanLine}
+use Rattle.jdwp_attach.specs.declared.plans.plan_line.PlanLine.{PlanLine}
 
 -- ---- steps of a run
 

@@ -13,8 +13,8 @@ use Rattle.jdwp_action.specs.Actions.{Command, Content, Raw}
 use Rattle.jdwp_debugger.specs.Asking.{command_bytes, id_after}
 use Rattle.jdwp_debugger.specs.Debuggers.{Asked, Debugger}
 use Rattle.jdwp_debugger.specs.DebuggerTurns.{sizes_header}
-use Rattle.jdwp_plan.specs.declared.plan_line.PlanLine.{PlanLine}
-use Rattle.jdwp_plan.specs.declared.plan_line.PlanLine.TheVariants as line
+use Rattle.jdwp_attach.specs.declared.plans.plan_line.PlanLine.{PlanLine}
+use Rattle.jdwp_attach.specs.declared.plans.plan_line.PlanLine.TheVariants as line
 use Rattle.jdwp_attach.specs.OwnCounts.{Step, Line, Count, suspend_count}
 
 -- ---- the command of a line

@@ -20,19 +20,19 @@ use Rattle.jdwp_mirror.specs.Messages.{Reply, Report}
 use Rattle.jdwp_mirror.specs.Mirror.{ends}
 use Rattle.jdwp_debugger.specs.FaultNumbers.{fault_number}
 use Rattle.jdwp_debugger.specs.RefusedNumbers.{refused_number}
-use Rattle.jdwp_pipe.specs.declared.ended.Ended.{Ended}
-use Rattle.jdwp_pipe.specs.declared.ended.Ended.TheVariants.{Done, LostByRead, LostByWrite, Refused, NoMemory, TurnLimit}
-use Rattle.jdwp_pipe.specs.Endings.{unflushed_end}
-use Rattle.jdwp_pipe.specs.Story.{Story, flushed}
-use Rattle.jdwp_plan.specs.declared.plan_line.PlanLine.{PlanLine}
-use Rattle.jdwp_plan.specs.declared.plan_line.PlanLine.TheVariants as line
+use Rattle.jdwp_end.specs.declared.pipes.ended.Ended.{Ended}
+use Rattle.jdwp_end.specs.declared.pipes.ended.Ended.TheVariants.{Done, LostByRead, LostByWrite, Refused, NoMemory, TurnLimit}
+use Rattle.jdwp_end.specs.Endings.{unflushed_end}
+use Rattle.jdwp_end.specs.Story.{Story, flushed}
+use Rattle.jdwp_attach.specs.declared.plans.plan_line.PlanLine.{PlanLine}
+use Rattle.jdwp_attach.specs.declared.plans.plan_line.PlanLine.TheVariants as line
 use Rattle.jdwp_attach.specs.declared.attached.Attached.{Attached}
 use Rattle.jdwp_attach.specs.declared.attached.Attached.TheVariants as run
 use Rattle.jdwp_attach.specs.OwnCounts.{AreSteps, AsksDue, Step, due_behind}
 use Rattle.jdwp_attach.specs.PlanAsks.{HasPut, IsBeginning, asks, command_asked}
 use Rattle.jdwp_attach.specs.PlanWaits.{Awaits, IsNextLine}
 use Rattle.jdwp_attach.specs.Runs.{Standing, FailsLastFlush, InOrder, IsGoing, Reaches, ReachesBy, RunSteps}
-use Rattle.jdwp_tell.specs.Telling.{lines_of}
+use Rattle.jdwp_attach.specs.Telling.{lines_of}
 
 -- ---- why a run ends
 

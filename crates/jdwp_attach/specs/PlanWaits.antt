@@ -7,8 +7,8 @@ use Rattle.jdwp_layout.specs.CommandNumbers.{COMPOSITE, is_command}
 use Rattle.jdwp_end.specs.declared.phase.Phase.TheVariants.{AwaitingHandshake, Established}
 use Rattle.jdwp_debugger.specs.Debuggers.{Debugger, has_tickets}
 use Rattle.jdwp_debugger.specs.DebuggerTurns.{Told, Sizes, Seen}
-use Rattle.jdwp_plan.specs.declared.plan_line.PlanLine.{PlanLine}
-use Rattle.jdwp_plan.specs.declared.plan_line.PlanLine.TheVariants as line
+use Rattle.jdwp_attach.specs.declared.plans.plan_line.PlanLine.{PlanLine}
+use Rattle.jdwp_attach.specs.declared.plans.plan_line.PlanLine.TheVariants as line
 
 -- ---- composites among messages
 

@@ -9,16 +9,16 @@ use Rattle.jdwp_debugger.specs.declared.turning.Read.TheVariants as read
 use Rattle.jdwp_debugger.specs.Asking.{HasAsked, refusal_of_ask}
 use Rattle.jdwp_debugger.specs.Debuggers.{Debugger, lost_debugger, with_fed, with_taken}
 use Rattle.jdwp_debugger.specs.DebuggerTurns.{TurnsAt}
-use Rattle.jdwp_pipe.specs.declared.ended.Ended.{Ended}
-use Rattle.jdwp_pipe.specs.declared.ended.Ended.TheVariants as ended
-use Rattle.jdwp_pipe.specs.Moving as moving
-use Rattle.jdwp_pipe.specs.Story.{FailsFlush, FailsRead, FailsWrite, Story, flushed, with_written}
-use Rattle.jdwp_plan.specs.declared.plan_line.PlanLine.{PlanLine}
-use Rattle.jdwp_plan.specs.declared.plan_line.PlanLine.TheVariants as line
+use Rattle.jdwp_end.specs.declared.pipes.ended.Ended.{Ended}
+use Rattle.jdwp_end.specs.declared.pipes.ended.Ended.TheVariants as ended
+use Rattle.jdwp_end.specs.Moving as moving
+use Rattle.jdwp_end.specs.Story.{FailsFlush, FailsRead, FailsWrite, Story, flushed, with_written}
+use Rattle.jdwp_attach.specs.declared.plans.plan_line.PlanLine.{PlanLine}
+use Rattle.jdwp_attach.specs.declared.plans.plan_line.PlanLine.TheVariants as line
 use Rattle.jdwp_attach.specs.OwnCounts.{AreSteps, AsksDue, Line, Step, due_behind, planned}
 use Rattle.jdwp_attach.specs.PlanAsks.{HasAskedSteps, IsBeginning, Stands, asks}
 use Rattle.jdwp_attach.specs.PlanWaits.{Awaits, IsNextLine, IsThere}
-use Rattle.jdwp_tell.specs.Telling.{TellsKnown, lines_of}
+use Rattle.jdwp_attach.specs.Telling.{TellsKnown, lines_of}
 
 -- ---- how an engine stands
 

@@ -1,7 +1,7 @@
 //! The commands that a plan asks.
 ghost use Rattle.std.specs.Prelude.{◌≡◌, [], ◌∷◌, ◌++◌, ◌+◌, true, is_some, IfErr, IfOk, None, OnOk, Some};
-ghost use Rattle.jdwp_pipe.specs.Story.{Story};
-ghost use Rattle.jdwp_plan.specs.declared.plan_line.PlanLine.{PlanLine};
+ghost use Rattle.jdwp_end.specs.Story.{Story};
+ghost use Rattle.jdwp_attach.specs.declared.plans.plan_line.PlanLine.{PlanLine};
 ghost use Rattle.jdwp_attach.specs.declared.asking.Unread.TheVariants as unread;
 ghost use Rattle.jdwp_attach.specs.PlanAsks.{command_asked};
 ghost use Rattle.jdwp_attach.specs.PlanRuns.{EndsRefused, IsAsk, LineEndsSo, LineGoesOn, LineTells};
@@ -10,8 +10,8 @@ ghost use Rattle.jdwp_attach.specs.Runs.{IsReady, at};
 
 use crate::run::Run;
 use jdwp_debugger::{Command, Debugger, Refused};
-use jdwp_layout::{layout_of, read, reads_what_is_encoded};
-use jdwp_pipe::{Ended, Pipe, write_out};
+use jdwp_end::{Ended, Pipe, write_out};
+use jdwp_layout::{layout_of, read};
 use jdwp_wire::{DataFault, IdSizes};
 use std::alloc::{AllocError, Global};
 
@@ -50,7 +50,7 @@ fn command_of(
     ensures memory { IfErr result (λ e. e ≡ Unread.NoMemory
         → is_some (command_asked sizes.now set number bytes.now) ≡ true) }
 {
-    reads_what_is_encoded();
+    jdwp_layout::laws::reads_what_is_encoded();
     let layouts = match layout_of(set, number) {
         Some(row) => row.layouts,
         None => None,

@@ -1,7 +1,7 @@
 //! How a run of a plan ends.
 ghost use Rattle.std.specs.Prelude.{◌≡◌};
 
-use jdwp_pipe::Ended;
+use jdwp_end::Ended;
 
 /// How a run of a plan ended, and at which of its lines where one was refused.
 #[derive(Clone, Copy, Debug, PartialEq, Eq)]

@@ -3,23 +3,23 @@ ghost use Rattle.std.specs.Prelude.{◌≡◌, ◌<◌, ◌^◌, ◌||◌, [], �
 ghost use Rattle.jdwp_end.specs.Ends.{is_open};
 ghost use Rattle.jdwp_debugger.specs.Debuggers as model;
 ghost use Rattle.jdwp_debugger.specs.Debuggers.{attached, has_tickets};
-ghost use Rattle.jdwp_pipe.specs.Endings.{unflushed_end};
-ghost use Rattle.jdwp_pipe.specs.Story.{Story, flushed, with_written};
-ghost use Rattle.jdwp_plan.specs.declared.plan_line.PlanLine as declared;
-ghost use Rattle.jdwp_plan.specs.declared.plan_line.PlanLine.TheVariants as line;
+ghost use Rattle.jdwp_end.specs.Endings.{unflushed_end};
+ghost use Rattle.jdwp_end.specs.Story.{Story, flushed, with_written};
+ghost use Rattle.jdwp_attach.specs.declared.plans.plan_line.PlanLine as declared;
+ghost use Rattle.jdwp_attach.specs.declared.plans.plan_line.PlanLine.TheVariants as line;
 ghost use Rattle.jdwp_attach.specs.PlanRuns.{Attaches, EndsSo, IsByTurn, LineEndsSo, LineGoesOn, LineTells, MayEnd, TellsRefused, ended_at, ended_of, unflushed_debugger};
 ghost use Rattle.jdwp_attach.specs.PlanWaits.{Counts, HandlesComposites, IsNextLine};
 ghost use Rattle.jdwp_attach.specs.Runs.{FailsLastFlush, GoesOn, InOrder, IsAnywhere, IsAtAnswers, IsGoing, IsReady, Standing, at};
-ghost use Rattle.jdwp_tell.specs.Telling.{TellsKnown};
+ghost use Rattle.jdwp_attach.specs.Telling.{TellsKnown};
 
 use crate::asking::ask_line;
 use crate::attached::Attached;
+use crate::plans::PlanLine;
 use crate::run::Run;
+use crate::tell::known_text;
 use crate::turning::turn_once;
 use jdwp_debugger::Debugger;
-use jdwp_pipe::{CHUNK, Ended, Pipe, flush_all, write_all, write_out};
-use jdwp_plan::PlanLine;
-use jdwp_tell::known_text;
+use jdwp_end::{CHUNK, Ended, Pipe, flush_all, write_all, write_out};
 use std::alloc::Global;
 
 /// Runs the debugger on the pipe for one session by the plan, for at most so many turns.

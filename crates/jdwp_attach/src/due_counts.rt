@@ -4,15 +4,12 @@ ghost use Rattle.jdwp_debugger.specs.declared.asking.Refused as asking;
 ghost use Rattle.jdwp_debugger.specs.Asking.{IsRefusal};
 ghost use Rattle.jdwp_debugger.specs.DebuggerTurns.{read_meaning};
 ghost use Rattle.jdwp_debugger.specs.FollowingKept.{following};
-ghost use Rattle.jdwp_event.specs.Told.{composite_thread, event_thread, events_thread};
-ghost use Rattle.jdwp_layout.specs.Meanings.{scalar_meanings};
-ghost use Rattle.jdwp_mirror.specs.CommandKinds.{id_found};
+ghost use Rattle.jdwp_event.specs.Told.{composite_thread, id_found};
 ghost use Rattle.jdwp_attach.specs.OwnCounts.{AsksDue, Step, due_count, suspends_thread, unsure};
 
 use jdwp_command::thread_reference::suspend_count;
 use jdwp_debugger::{Debugger, Order, Read, Refused};
-use jdwp_event::{Composite, Event, Policy};
-use jdwp_layout::Scalar;
+use jdwp_event::{Composite, Policy, thread_in};
 use jdwp_value::ObjectId;
 use jdwp_wire::NoMemory;
 use std::alloc::Global;
@@ -77,7 +74,7 @@ fn unsure_thread(debugger: &Debugger, composite: &Composite) -> Option<ObjectId>
     if !suspends_thread(composite) {
         return None;
     }
-    let thread = thread_in_events(composite.events())?;
+    let thread = thread_in(composite)?;
     if debugger.is_held(thread) || !is_following(debugger) {
         None
     } else {
@@ -97,32 +94,4 @@ fn suspends_thread(composite: &Composite) -> bool
     ensures { result ≡ suspends_thread composite.now }
 {
     composite.policy() == Policy::EventThread.byte() || composite.policy() == Policy::All.byte()
-}
-
-/// The thread that these events are of; None where none of them has one.
-fn thread_in_events(events: &[Event]) -> Option<ObjectId>
-    ensures { result ≡ id_found (events_thread events.now) }
-{
-    for event in events {
-        let thread = thread_in_fields(event.fields());
-        if thread.is_some() {
-            return thread;
-        }
-    }
-    None
-}
-
-/// The thread of an event with these fields; None where it has none.
-fn thread_in_fields(fields: &[Scalar]) -> Option<ObjectId>
-    ensures { result ≡ id_found (event_thread (scalar_meanings fields.now)) }
-{
-    match fields {
-        [
-            Scalar::Byte(_),
-            Scalar::Int(_),
-            Scalar::ObjectId(thread),
-            ..
-        ] => Some(*thread),
-        _ => None,
-    }
 }

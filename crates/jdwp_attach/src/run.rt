@@ -1,6 +1,6 @@
 //! What a run has left, and what it keeps between turns.
 
-use jdwp_pipe::CHUNK;
+use jdwp_end::CHUNK;
 
 /// What a run has left, and what it keeps between turns.
 #[derive(Drop)]

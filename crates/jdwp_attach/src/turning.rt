@@ -1,18 +1,18 @@
 //! Turns of a run.
 ghost use Rattle.std.specs.Prelude.{◌≡◌, ◌<◌, true, is_some, OnOk, IfErr};
 ghost use Rattle.jdwp_end.specs.Ends.{is_open, room_of};
-ghost use Rattle.jdwp_pipe.specs.Story.{flushed};
+ghost use Rattle.jdwp_end.specs.Story.{flushed};
 ghost use Rattle.jdwp_debugger.specs.DebuggerTurns.{read_meaning};
 ghost use Rattle.jdwp_attach.specs.PlanRuns.{EndsFailed, EndsSo, IsByTurn, told_number};
 ghost use Rattle.jdwp_attach.specs.PlanWaits.{Awaits, Counts, composites_of};
 ghost use Rattle.jdwp_attach.specs.Runs.{Finishes, GoesOn, IsReady, LosesAtRead, PutsAndTells, ReadsMore, at};
-ghost use Rattle.jdwp_tell.specs.Telling.{turn_lines};
+ghost use Rattle.jdwp_attach.specs.Telling.{turn_lines};
 
 use crate::due_counts::ask_due_count;
 use crate::run::Run;
+use crate::tell::turn_text;
 use jdwp_debugger::{Debugger, DebuggerFault, Read};
-use jdwp_pipe::{CHUNK, Ended, NoInput, Pipe, flush_all, read_and_feed, write_all, write_out};
-use jdwp_tell::turn_text;
+use jdwp_end::{CHUNK, Ended, NoInput, Pipe, flush_all, read_and_feed, write_all, write_out};
 use jdwp_wire::NoMemory;
 use std::alloc::Global;
 

@@ -6,7 +6,8 @@ use Rattle.jdwp_action.specs.Actions
 use Rattle.jdwp_action.specs.Actions.{Action, Command, about, action_of, thread_of}
 use Rattle.jdwp_apart.specs.Messages.{is_invocation}
 use Rattle.jdwp_mirror.specs.declared.command.CommandKind.{CommandKind}
-use Rattle.jdwp_mirror.specs.CommandKinds.{id_found, kind_of}
+use Rattle.jdwp_mirror.specs.CommandKinds.{kind_of}
+use Rattle.jdwp_event.specs.Told.{id_found}
 use Rattle.jdwp_client.specs.Holding.{frees, frees_by, may_free}
 
 -- by its kind, and the thread that it is about

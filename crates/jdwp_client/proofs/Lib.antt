@@ -1,4 +1,5 @@
 pub mod Lists
+pub mod Rising
 pub mod Taking
 pub mod Freeing
 pub mod Finding

@@ -18,7 +18,7 @@ use Rattle.std.proofs.Math.Seq.{drop-length}
 use Rattle.std.proofs.lemmas.List.{flat_map_more}
 use Rattle.jdwp_action.specs.Actions.{Command}
 use Rattle.jdwp_end.specs.Ends.{is_open}
-use Rattle.jdwp_pipe.specs.Story.{FailsFlush, FailsRead, Story, with_written}
+use Rattle.jdwp_end.specs.Story.{FailsFlush, FailsRead, Story, with_written}
 use Rattle.jdwp_debugger.specs.declared.pending.Ticket.{Ticket}
 use Rattle.jdwp_event.specs.Composites.{CompositeMeaning}
 use Rattle.jdwp_layout.specs.declared.answer.Answer.{Answer}
@@ -134,6 +134,7 @@ turn-fails story old mid now (error.Refused refused) opened put h same M base n 
 turn-fails story old mid now (error.NotWaiting ticket) opened put h same M base n missing w = absurd h.0
 turn-fails story old mid now error.Closed opened put h same M base n missing w = absurd h.0
 turn-fails story old mid now (error.Lost loss) opened put h same M base n missing w = absurd h.0
+turn-fails story old mid now (error.TooLate awaited loss) opened put h same M base n missing w = absurd h.0
 turn-fails story old mid now error.TooManySteps opened put h same M base n missing w = absurd h.0
 
 -- ---- what is kept
@@ -183,6 +184,7 @@ waits-not story ticket c error.TooManyEvents h = absurd h
 waits-not story ticket c (error.Fault fault) h = absurd h
 waits-not story ticket c (error.Lost loss) h = absurd h
 waits-not story ticket c error.NoMemory h = absurd h
+waits-not story ticket c (error.TooLate awaited loss) h = absurd h
 waits-not story ticket c error.TooManySteps h = absurd h
 
 pub stops-wait : {P : Type 0} (story : P → Story) (ticket : Ticket) (old : Client P) (e : ClientError) (new : Client P) → Stops story (lacks_answer ticket.0) old e new
@@ -194,6 +196,7 @@ stops-wait story ticket old error.TooManyEvents new h = h
 stops-wait story ticket old (error.Fault fault) new h = h
 stops-wait story ticket old (error.Lost loss) new h = h
 stops-wait story ticket old error.NoMemory new h = h
+stops-wait story ticket old (error.TooLate awaited loss) new h = h
 stops-wait story ticket old error.TooManySteps new h = h
 
 pub sends-by : {P : Type 0} (story : P → Story) (command : Command) (ticket : ℕ) (old mid new : Client P) → Enqueues command ticket old mid → Puts story mid new → Sends story command ticket old new

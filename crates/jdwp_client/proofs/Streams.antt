@@ -13,7 +13,7 @@ use Rattle.jdwp_mirror.specs.Messages.{Reply, Report}
 use Rattle.jdwp_mirror.specs.Mirror.{ends}
 use Rattle.jdwp_end.specs.Runs.{IsFront}
 use Rattle.jdwp_action.specs.Actions.{Command}
-use Rattle.jdwp_pipe.specs.Story.{Story}
+use Rattle.jdwp_end.specs.Story.{Story}
 use Rattle.jdwp_debugger.specs.declared.faults.DebuggerFault.{DebuggerFault}
 use Rattle.jdwp_debugger.specs.declared.faults.DebuggerFault.TheVariants as code
 use Rattle.jdwp_debugger.specs.declared.order.Order.{Order}
@@ -26,7 +26,7 @@ use Rattle.jdwp_client.specs.declared.errors.ClientError.{ClientError}
 use Rattle.jdwp_client.specs.declared.errors.ClientError.TheVariants as error
 use Rattle.jdwp_client.specs.declared.errors.Loss.TheVariants.{ByRead, ByWrite}
 use Rattle.jdwp_client.specs.Clients as clients
-use Rattle.jdwp_client.specs.Clients.{Client, FailsPut, FailsToSend, Puts, Sends, StepFails, Begins, Writes, Turns, Reads, asked_under, ended, ended_where, moved, settled, with_told}
+use Rattle.jdwp_client.specs.Clients.{Client, FailsPut, FailsToSend, IsLimited, Puts, Sends, StepFails, Begins, Writes, Turns, Reads, asked_under, ended, ended_where, moved, settled, with_told}
 use Rattle.jdwp_client.specs.Exact.{IsCut, IsExact, KeepsExact}
 use Rattle.jdwp_client.specs.Turning.{unread}
 
@@ -197,6 +197,7 @@ cut-fails story start (error.NotWaiting ticket) old new h k = absurd h
 cut-fails story start error.TooManyEvents old new h k = absurd h
 cut-fails story start error.Closed old new h k = absurd h
 cut-fails story start error.NoMemory old new h k = absurd h
+cut-fails story start (error.TooLate awaited loss) old new h k = absurd h
 cut-fails story start error.TooManySteps old new h k = absurd h
 
 same-client : {P : Type 0} (story : P → Story) (start : Story) (old new : Client P) → new ≡ old → IsExact start (story old.pipe) old.debugger → IsCut start (story new.pipe) new.debugger
@@ -213,10 +214,15 @@ cut-sends story start command (error.Lost ByRead) old new h k = absurd h
 cut-sends story start command (error.NotWaiting ticket) old new h k = absurd h
 cut-sends story start command error.TooManyEvents old new h k = absurd h
 cut-sends story start command (error.Fault fault) old new h k = absurd h
+cut-sends story start command (error.TooLate awaited loss) old new h k = absurd h
 cut-sends story start command error.TooManySteps old new h k = absurd h
 
 begins-exact : (order : Order) (limits : Limits) (id : ℕ) (s : Story) → IsExact s s (attached (new_debugger_in order limits id))
 begins-exact order limits id s = record { read = sym (append-nil s.read); written = sym (append-nil s.written); prompt = refl }
+
+limited : {P : Type 0} (story : P → Story) (K : Story → Debugger → Type 0) (old new : Client P) → IsLimited story old new → K (story old.pipe) old.debugger → K (story new.pipe) new.debugger
+limited {P} story K old new h k =
+    subst (λ (c : Client P). K (story new.pipe) c.debugger) (sym h.1) (subst (λ (s : Story). K s old.debugger) (sym h.0) k)
 
 pub keeps-exact : {P : Type 0} (story : P → Story) → KeepsExact story
 keeps-exact story = record {
@@ -226,4 +232,6 @@ keeps-exact story = record {
   ends = λ start c h. exact-by start (story c.pipe) c.debugger (ended c).debugger (ended-flow c) h;
   fails = cut-fails story;
   fails_to_send = cut-sends story;
+  limits = λ start. limited story (IsExact start);
+  limits_behind = λ start. limited story (IsCut start);
 }

@@ -11,7 +11,7 @@ use Rattle.jdwp_action.specs.Actions.{Command}
 use Rattle.jdwp_end.specs.Ends.{front_of, is_open}
 use Rattle.jdwp_mirror.specs.Messages.{Reply, Report, id_sizes}
 use Rattle.jdwp_mirror.specs.Mirror.{ends}
-use Rattle.jdwp_pipe.specs.Story.{Story}
+use Rattle.jdwp_end.specs.Story.{Story}
 use Rattle.jdwp_debugger.specs.declared.faults.DebuggerFault.{DebuggerFault}
 use Rattle.jdwp_debugger.specs.declared.faults.DebuggerFault.TheVariants as code
 use Rattle.jdwp_debugger.specs.declared.pending.Ticket.{Ticket}
@@ -27,7 +27,7 @@ use Rattle.jdwp_client.specs.declared.errors.ClientError.{ClientError}
 use Rattle.jdwp_client.specs.declared.errors.ClientError.TheVariants as error
 use Rattle.jdwp_client.specs.declared.errors.Loss.TheVariants.{ByRead, ByWrite}
 use Rattle.jdwp_client.specs.Clients as clients
-use Rattle.jdwp_client.specs.Clients.{Client, FailsToSend, Puts, Sends, StepFails, Begins, Writes, Turns, Reads, asked_under, ended, ended_where, lacks_answer, settled, with_answers, with_told}
+use Rattle.jdwp_client.specs.Clients.{Client, FailsToSend, IsLimited, Puts, Sends, StepFails, Begins, Writes, Turns, Reads, asked_under, ended, ended_where, lacks_answer, moved, settled, with_answers, with_told}
 use Rattle.jdwp_client.specs.Keeping.{HandsOut, answers_in, is_under}
 use Rattle.jdwp_client.specs.Tickets.{AreGiven, IsGiven, KeepsGiven}
 use Rattle.jdwp_client.proofs.Lists.{all-append, all-at, all-mono, all-remove, none-passes}
@@ -192,6 +192,7 @@ given-fails story (error.NotWaiting ticket) old new h k = absurd h
 given-fails story error.TooManyEvents old new h k = absurd h
 given-fails story error.Closed old new h k = absurd h
 given-fails story error.NoMemory old new h k = absurd h
+given-fails story (error.TooLate awaited loss) old new h k = absurd h
 given-fails story error.TooManySteps old new h k = absurd h
 
 same-given : {P : Type 0} (old new : Client P) → new ≡ old → AreGiven old → AreGiven new
@@ -206,6 +207,7 @@ unsent-given story command (error.Lost ByRead) old new h k = absurd h
 unsent-given story command (error.NotWaiting ticket) old new h k = absurd h
 unsent-given story command error.TooManyEvents old new h k = absurd h
 unsent-given story command (error.Fault fault) old new h k = absurd h
+unsent-given story command (error.TooLate awaited loss) old new h k = absurd h
 unsent-given story command error.TooManySteps old new h k = absurd h
 
 -- ---- tickets that were not given yet
@@ -225,6 +227,9 @@ begins-given c none unasked = record {
   waiting = subst (λ (ps : List Asked). AreWaiting c.debugger.tickets ps) (sym unasked) tt;
 }
 
+limited-given : {P : Type 0} (story : P → Story) (old new : Client P) → IsLimited story old new → AreGiven old → AreGiven new
+limited-given story old new h k = same-given (moved old.debugger new.pipe old) new h.1 (record { answers = k.answers; waiting = k.waiting })
+
 pub keeps-given : {P : Type 0} (story : P → Story) → KeepsGiven story
 keeps-given story = record {
   begins = begins-given;
@@ -234,5 +239,6 @@ keeps-given story = record {
   ends = given-ended;
   fails = given-fails story;
   fails_to_send = unsent-given story;
+  limits = limited-given story;
   fresh = fresh;
 }

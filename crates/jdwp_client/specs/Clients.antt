@@ -8,7 +8,7 @@ use Rattle.jdwp_end.specs.Runs.{IsFront}
 use Rattle.jdwp_action.specs.Actions.{Command}
 use Rattle.jdwp_event.specs.Composites.{CompositeMeaning}
 use Rattle.jdwp_layout.specs.declared.answer.Answer.{Answer}
-use Rattle.jdwp_pipe.specs.Story.{FailsFlush, FailsRead, FailsWrite, Story, flushed, with_read, with_written}
+use Rattle.jdwp_end.specs.Story.{FailsFlush, FailsRead, FailsWrite, Story, flushed, with_read, with_written}
 use Rattle.jdwp_debugger.specs.declared.asking.Refused.TheVariants as refusal
 use Rattle.jdwp_debugger.specs.declared.faults.DebuggerFault.{DebuggerFault}
 use Rattle.jdwp_debugger.specs.declared.faults.DebuggerFault.TheVariants as faults
@@ -17,9 +17,11 @@ use Rattle.jdwp_debugger.specs.declared.turning.Read.{Read}
 use Rattle.jdwp_debugger.specs.Asking.{HasAsked, refusal_of_ask}
 use Rattle.jdwp_debugger.specs.Debuggers.{Debugger, Unanswered, lost_debugger, tickets_of, unanswered, with_fed, with_taken}
 use Rattle.jdwp_debugger.specs.DebuggerTurns.{Told, TurnsAt, read_meaning}
+use Rattle.jdwp_client.specs.declared.errors.Awaited.{Awaited}
 use Rattle.jdwp_client.specs.declared.errors.ClientError.{ClientError}
 use Rattle.jdwp_client.specs.declared.errors.ClientError.TheVariants as error
 use Rattle.jdwp_client.specs.declared.errors.Loss.TheVariants.{ByRead, ByWrite}
+use Rattle.jdwp_client.specs.Errors.{IsToldOf}
 use Rattle.jdwp_client.specs.Keeping.{HandsOut, answers_in, composites_in, is_full, is_under}
 use Rattle.jdwp_client.specs.Turning.{unread}
 
@@ -171,6 +173,25 @@ pub record ReadsOnce {P : Type 0} (story : P → Story) (old new : Client P) : T
   pub few : length bytes ≤ room_of old.debugger.end
   pub pipe : story new.pipe ≡ with_read bytes (story old.pipe)
   pub is : new ≡ moved (with_fed bytes old.debugger) new.pipe old
+
+-- ---- limits of time
+
+-- the pipe was given a limit of time, or has none any more, and nothing went through it
+abbrev pub IsLimited : {P : Type 0} → (P → Story) → Client P → Client P → Type 0
+IsLimited {P} story old new = (story new.pipe ≡ story old.pipe) × (new ≡ moved old.debugger new.pipe old)
+
+-- A call did this within a limit of time, which was given before and taken back behind it.
+pub record Within {P : Type 0} (story : P → Story) (Does : Client P → Client P → Type 0) (old new : Client P) : Type 0 where
+  pub first : Client P
+  pub last : Client P
+  pub begins : IsLimited story old first
+  pub does : Does first last
+  pub ends : IsLimited story last new
+
+-- The same of one that failed, of which this was told.
+abbrev pub FailsWithin : {P : Type 0} → (P → Story) → Awaited → (Client P → ClientError → Client P → Type 0) → Client P → ClientError → Client P → Type 0
+FailsWithin {P} story awaited Fails old told new =
+    (e : ClientError) × IsToldOf awaited e told × Within story (λ (first last : Client P). Fails first e last) old new
 
 -- ---- what is asked
 

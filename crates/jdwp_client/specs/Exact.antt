@@ -3,12 +3,12 @@ use Rattle.std.specs.Prelude.{◌≡◌, ℕ, Bool, List, ◌++◌}
 use Rattle.jdwp_wire.specs.Limits.{Limits}
 use Rattle.jdwp_end.specs.Runs.{IsFront}
 use Rattle.jdwp_action.specs.Actions.{Command}
-use Rattle.jdwp_pipe.specs.Story.{Story}
+use Rattle.jdwp_end.specs.Story.{Story}
 use Rattle.jdwp_debugger.specs.declared.order.Order.{Order}
 use Rattle.jdwp_debugger.specs.Debuggers.{Debugger, attached, new_debugger_in}
 use Rattle.jdwp_debugger.specs.DebuggerTurns.{Told}
 use Rattle.jdwp_client.specs.declared.errors.ClientError.{ClientError}
-use Rattle.jdwp_client.specs.Clients.{Client, FailsToSend, Sends, StepFails, Waits, ended}
+use Rattle.jdwp_client.specs.Clients.{Client, FailsToSend, IsLimited, Sends, StepFails, Waits, ended}
 
 -- Since the pipe had this story as the session began, the debugger was fed what was read, in order; what was taken from it to leave was written,
 -- in order; and before each read all that was written had left. What was taken is a beginning of what the debugger put (`Carries`).
@@ -23,8 +23,9 @@ pub record IsCut (start now : Story) (d : Debugger) : Type 0 where
   pub written : (bytes : List ℕ) × (now.written ≡ start.written ++ bytes) × IsFront bytes d.end.session.taken
   pub prompt : now.early ≡ start.early
 
--- It is so as a session begins, and each call of a client keeps it: a command that is sent, each step of a wait, the end of the session, and
--- what is handed out, by which neither changes. Behind a call that failed a beginning of what was taken was written.
+-- It is so as a session begins, and each call of a client keeps it: a command that is sent, each step of a wait, the end of the session, a limit of
+-- time, and what is handed out, by which neither changes. Behind a call that failed a beginning of what was taken was written, and so it stays where
+-- a limit is taken back.
 pub record KeepsExact {P : Type 0} (story : P → Story) : Type 0 where
   pub begins : (order : Order) (limits : Limits) (id : ℕ) (pipe : P) → IsExact (story pipe) (story pipe) (attached (new_debugger_in order limits id))
   pub sends : (start : Story) (command : Command) (ticket : ℕ) (old new : Client P) → Sends story command ticket old new
@@ -36,3 +37,7 @@ pub record KeepsExact {P : Type 0} (story : P → Story) : Type 0 where
       → IsExact start (story old.pipe) old.debugger → IsCut start (story new.pipe) new.debugger
   pub fails_to_send : (start : Story) (command : Command) (e : ClientError) (old new : Client P) → FailsToSend story command old e new
       → IsExact start (story old.pipe) old.debugger → IsCut start (story new.pipe) new.debugger
+  pub limits : (start : Story) (old new : Client P) → IsLimited story old new
+      → IsExact start (story old.pipe) old.debugger → IsExact start (story new.pipe) new.debugger
+  pub limits_behind : (start : Story) (old new : Client P) → IsLimited story old new
+      → IsCut start (story old.pipe) old.debugger → IsCut start (story new.pipe) new.debugger

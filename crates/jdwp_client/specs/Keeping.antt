@@ -1,6 +1,6 @@
 -- What is kept of what turns of a debugger tell, until somebody takes it (JDWP specification, "JDWP Overview": replies and events come in
 -- any order; "Protocol Details": the command Composite of the set Event, whose events begin with a kind and the id of their request).
-use Rattle.std.specs.Prelude.{◌≡◌, ℕ, ℤ, ◌==◌, ◌-◌, nat_lt, Bool, false, List, [], ◌∷◌, length, remove, slice_get, Option, Some, None, MatchOption}
+use Rattle.std.specs.Prelude.{◌≡◌, ℕ, ℤ, ◌<◌, ◌≤◌, ◌==◌, ◌-◌, nat_lt, Bool, false, List, [], ◌∷◌, length, remove, slice_get, slice_index_or, Option, Some, None, MatchOption}
 use Rattle.std.specs.List.{list_any, position}
 use Rattle.std.specs.Ordering.{int_eq}
 use Rattle.jdwp_debugger.specs.declared.pending.Ticket.{Ticket}
@@ -43,6 +43,10 @@ is_of_request request event = false
 -- a composite has an event of this request
 abbrev pub has_request : ℤ → CompositeMeaning → Bool
 has_request request c = list_any (is_of_request request) c.events
+
+-- So many answers, from the first on, have tickets that rise.
+abbrev pub Rises : ℕ → List (Ticket × Answer) → Type 0
+Rises n kept = (n ≤ length kept) × ((i j : ℕ) (d : Ticket × Answer) → i < j → j < n → (slice_index_or kept i d).0.0 < (slice_index_or kept j d).0.0)
 
 -- ---- what is handed out
 

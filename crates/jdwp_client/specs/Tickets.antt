@@ -3,12 +3,12 @@ use Rattle.std.specs.Prelude.{◌≡◌, ℕ, ◌≤◌, ◌<◌, Bool, true, Li
 use Rattle.std.specs.List.{AllByRecursion}
 use Rattle.jdwp_action.specs.Actions.{Command}
 use Rattle.jdwp_layout.specs.declared.answer.Answer.{Answer}
-use Rattle.jdwp_pipe.specs.Story.{Story}
+use Rattle.jdwp_end.specs.Story.{Story}
 use Rattle.jdwp_debugger.specs.declared.pending.Ticket.{Ticket}
 use Rattle.jdwp_debugger.specs.Debuggers.{Asked}
 use Rattle.jdwp_debugger.specs.DebuggerTurns.{Told}
 use Rattle.jdwp_client.specs.declared.errors.ClientError.{ClientError}
-use Rattle.jdwp_client.specs.Clients.{Client, FailsToSend, Sends, StepFails, Waits, ended, lacks_answer, with_answers}
+use Rattle.jdwp_client.specs.Clients.{Client, FailsToSend, IsLimited, Sends, StepFails, Waits, ended, lacks_answer, with_answers}
 use Rattle.jdwp_client.specs.Keeping.{HandsOut, is_under}
 
 -- where so many tickets were given, this is one of them, or none
@@ -33,4 +33,5 @@ pub record KeepsGiven {P : Type 0} (story : P → Story) : Type 0 where
   pub ends : (c : Client P) → AreGiven c → AreGiven (ended c)
   pub fails : (e : ClientError) (old new : Client P) → StepFails story e old new → AreGiven old → AreGiven new
   pub fails_to_send : (command : Command) (e : ClientError) (old new : Client P) → FailsToSend story command old e new → AreGiven old → AreGiven new
+  pub limits : (old new : Client P) → IsLimited story old new → AreGiven old → AreGiven new
   pub fresh : (c : Client P) (ticket : ℕ) → AreGiven c → c.debugger.tickets < ticket → lacks_answer ticket c ≡ true

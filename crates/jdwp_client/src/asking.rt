@@ -8,8 +8,8 @@ use crate::client::Client;
 use crate::errors::ClientError;
 use jdwp_command::virtual_machine;
 use jdwp_debugger::{Command, Ticket};
+use jdwp_end::Pipe;
 use jdwp_layout::Answer;
-use jdwp_pipe::Pipe;
 
 impl<P: Pipe + Drop> Client<P> {
     ghost use Rattle.jdwp_client.specs.Clients.{AsksFor, Enqueues, FailsToAsk, FailsToSend, LosesByWrite, Puts, Sends};
@@ -41,6 +41,7 @@ impl<P: Pipe + Drop> Client<P> {
     {
         let ticket = self.debugger.ask(self.alloc, command)?;
         self.sent = Some(ticket);
+        self.kept.waiters.push(ticket);
         Ok(ticket)
     }
 

@@ -9,9 +9,9 @@ use crate::errors::ClientError;
 use crate::kept::Kept;
 use crate::options::Options;
 use jdwp_debugger::{Debugger, KeptRequests, Lost, Ticket};
+use jdwp_end::{CHUNK, Pipe};
 use jdwp_event::Composite;
 use jdwp_layout::Answer;
-use jdwp_pipe::{CHUNK, Pipe};
 use jdwp_value::ObjectId;
 use jdwp_wire::{IdSizes, NoMemory};
 use std::alloc::Global;
@@ -39,7 +39,7 @@ impl<P: Pipe> Model for Client<P> {
 
     ghost Value = { clients.Client P };
 
-    ghost view = { λ c. client_of c.debugger c.pipe c.kept.events.items c.kept.answers.items c.sent c.lost c.most_events };
+    ghost view = { λ c. client_of c.debugger c.pipe c.kept.events.items c.kept.answers.items.items c.sent c.lost c.most_events };
 }
 
 impl<P: Pipe + Drop> Client<P> {
@@ -197,5 +197,6 @@ impl<P: Pipe + Drop> Client<P> {
         ensures { self.new ≡ ended self.old }
     {
         self.lost = Some(self.debugger.lose());
+        self.kept.waiters.clear();
     }
 }

@@ -31,12 +31,36 @@ pub enum ClientError {
     /// The connection is lost, and the session is over. The commands that waited are lost.
     #[error("the connection is lost: {0}")]
     Lost(Loss),
+    /// What was waited for did not come within the limit of time, the connection is lost so, and the session is over. The commands that
+    /// waited are lost.
+    #[error("{0} did not come in time, and the session is lost")]
+    TooLate(Awaited, Loss),
     /// An allocation was refused. Nothing is lost, and the session stays open.
     #[error("no memory")]
     NoMemory,
     /// 2^64 - 1 steps were made and what was waited for did not come. Nothing is lost, and the session stays open.
     #[error("too many steps")]
     TooManySteps,
+}
+
+/// What was waited for.
+#[derive(Clone, Copy, Debug, PartialEq, Eq, Error)]
+pub enum Awaited {
+    /// The target's answer to the handshake, and the widths of its ids.
+    #[error("the beginning of the session")]
+    Beginning,
+    /// The answer to the command that was asked.
+    #[error("the answer")]
+    Reply,
+    /// The answer under this ticket.
+    #[error("an answer")]
+    Answer(Ticket),
+    /// A composite.
+    #[error("an event")]
+    Event,
+    /// A composite that has an event of this request.
+    #[error("an event of request {0}")]
+    EventOf(i32),
 }
 
 /// How a connection was lost.

@@ -34,8 +34,8 @@ fn may_be_freed(debugger: &Debugger, thread: ObjectId) -> bool
     false
 }
 
-/// Whether a command may let the thread run.
-fn may_free(command: &Command, thread: ObjectId) -> bool
+/// Whether a command may let a thread run: Dispose, a Resume of it or of all, or one that invokes a method.
+pub fn may_free(command: &Command, thread: ObjectId) -> bool
     ensures { result ≡ spec.may_free thread.0 command.now }
 {
     if is_invocation(command) {

@@ -1,15 +1,16 @@
 //! What was told and not handed out.
-ghost use Rattle.std.specs.Prelude.{◌≡◌, ◌≤◌, ◌<◌, ◌+◌, ◌-◌, ◌∷◌, ◌++◌, [], length, IfOk, IfErr, MatchOption, None, is_some, OnOk};
+ghost use Rattle.std.specs.Prelude.{◌≡◌, ◌≤◌, ◌+◌, ◌∷◌, ◌++◌, [], length, IfErr, MatchOption, None, is_some, OnOk};
 ghost use Rattle.std.specs.List.{position};
-ghost use Rattle.std.specs.Vec.{vec_capacity};
 ghost use Rattle.std.specs.VecDeque.{deque_capacity};
 ghost use Rattle.jdwp_debugger.specs.DebuggerTurns.{AreFew, read_meaning};
 ghost use Rattle.jdwp_layout.specs.Meanings.{scalar_meanings};
-ghost use Rattle.jdwp_client.specs.Keeping.{answers_in, composites_in, HandsOut, Takes, has_request, is_under};
+ghost use Rattle.jdwp_client.specs.Keeping.{HandsOut, Rises, Takes, answers_in, composites_in, has_request, is_under};
 ghost use Rattle.jdwp_client.specs.Keeping as keeping;
 ghost use Rattle.jdwp_client.specs.Errors.{MeetsNoRoom};
 
+use crate::answers::Answers;
 use crate::errors::ClientError;
+use crate::waiters::Waiters;
 use jdwp_debugger::{Read, Ticket};
 use jdwp_event::Composite;
 use jdwp_layout::{Answer, Scalar};
@@ -19,22 +20,25 @@ use std::collections::VecDeque;
 /// How many composites one turn may tell.
 const AT_ONCE: usize = 4;
 
-/// The composites and the answers that were told and not handed out, each in the order told.
+/// The composites and the answers that were told and not handed out, each in the order told; and the tickets whose answers were not told.
 #[derive(Drop)]
 pub(crate) struct Kept {
     pub events: VecDeque<Composite>,
-    pub answers: Vec<(Ticket, Answer)>,
+    pub answers: Answers,
+    pub waiters: Waiters,
+    ghost rises: { Rises answers.rising answers.items.items },
 }
 
 impl Kept {
     /// Nothing.
     pub fn new(alloc: Global) -> Kept
         ensures events { result.events.items ≡ [] }
-        ensures answers { result.answers.items ≡ [] }
+        ensures answers { result.answers.items.items ≡ [] }
     {
         Kept {
             events: VecDeque::new(alloc),
-            answers: Vec::new(alloc),
+            answers: Answers::new(alloc),
+            waiters: Waiters::new(alloc),
         }
     }
 
@@ -44,19 +48,19 @@ impl Kept {
     /// `TooManyEvents` where fewer than four more may be kept; `NoMemory` where an allocation was refused.
     pub fn make_room(&mut self, most: usize) -> Result<(), ClientError>
         ensures events { self.new.events.items ≡ self.old.events.items }
-        ensures answers { self.new.answers.items ≡ self.old.answers.items }
+        ensures answers { self.new.answers.items.items ≡ self.old.answers.items.items }
         ensures few { OnOk result (length self.new.events.items + 4 ≤ most) }
         ensures event_room { OnOk result (length self.new.events.items + 4
             ≤ deque_capacity self.new.events) }
-        ensures answer_room { OnOk result (length self.new.answers.items + 1
-            ≤ vec_capacity self.new.answers) }
+        ensures answer_room { OnOk result (length self.new.answers.items.items + 1
+            ≤ deque_capacity self.new.answers.items) }
         ensures full { IfErr result (λ e. MeetsNoRoom most self.old.events.items e) }
     {
         if most.saturating_sub(self.events.len()) < AT_ONCE {
             return Err(ClientError::TooManyEvents);
         }
         self.events.reserve(AT_ONCE)?;
-        self.answers.reserve(1)?;
+        self.answers.reserve()?;
         Ok(())
     }
 
@@ -64,16 +68,20 @@ impl Kept {
     pub fn keep(&mut self, read: Read)
         requires few { AreFew (read_meaning read) }
         requires event_room { length self.old.events.items + 4 ≤ deque_capacity self.old.events }
-        requires answer_room { length self.old.answers.items + 1 ≤ vec_capacity self.old.answers }
+        requires answer_room { length self.old.answers.items.items + 1
+            ≤ deque_capacity self.old.answers.items }
         ensures events { self.new.events.items
             ≡ self.old.events.items ++ composites_in (read_meaning read) }
-        ensures answers { self.new.answers.items
-            ≡ self.old.answers.items ++ answers_in (read_meaning read) }
+        ensures answers { self.new.answers.items.items
+            ≡ self.old.answers.items.items ++ answers_in (read_meaning read) }
     {
         match read {
             Read::Nothing | Read::Hello | Read::Parked => {}
             Read::Seen(composite) => self.events.push_back_reserved(composite),
-            Read::Answered(ticket, answer) => self.answers.push_reserved((ticket, answer)),
+            Read::Answered(ticket, answer) => {
+                self.waiters.remove(ticket);
+                self.answers.push(ticket, answer);
+            }
             Read::Sizes(composites) => {
                 let _ = self.events.append(&mut VecDeque::from_vec(composites));
             }
@@ -85,7 +93,7 @@ impl Kept {
         ensures event { MatchOption result
             ((self.old.events.items ≡ []) × (self.new.events.items ≡ []))
             (λ c. self.old.events.items ≡ c ∷ self.new.events.items) }
-        ensures answers { self.new.answers.items ≡ self.old.answers.items }
+        ensures answers { self.new.answers.items.items ≡ self.old.answers.items.items }
     {
         self.events.pop_front()
     }
@@ -94,7 +102,7 @@ impl Kept {
     pub fn take_event_of(&mut self, request: i32) -> Option<Composite>
         ensures event { Takes (has_request request) self.old.events.items result
             self.new.events.items }
-        ensures answers { self.new.answers.items ≡ self.old.answers.items }
+        ensures answers { self.new.answers.items.items ≡ self.old.answers.items.items }
     {
         let place = place_of_request(&self.events, request)?;
         self.events.remove(place)
@@ -102,30 +110,21 @@ impl Kept {
 
     /// Whether an answer is kept under a ticket.
     pub fn has_answer(&self, ticket: Ticket) -> bool
-        ensures { result ≡ is_some (position (is_under ticket.0) self.now.answers.items) }
+        ensures { result ≡ is_some (position (is_under ticket.0) self.now.answers.items.items) }
     {
-        place_of_answer(&self.answers, ticket).is_some()
+        self.answers.place_of(ticket).is_some()
     }
 
     /// Hands out the first answer under a ticket.
     pub fn take_answer(&mut self, ticket: Ticket) -> Option<Answer>
-        ensures answer { MatchOption result ((position (is_under ticket.0) self.old.answers.items ≡ None)
-            × (self.new.answers.items ≡ self.old.answers.items)) (λ answer.
-            HandsOut (is_under ticket.0) self.old.answers.items (ticket, answer)
-            self.new.answers.items) }
+        ensures answer { MatchOption result ((position (is_under ticket.0) self.old.answers.items.items ≡ None)
+            × (self.new.answers.items.items ≡ self.old.answers.items.items)) (λ answer.
+            HandsOut (is_under ticket.0) self.old.answers.items.items (ticket, answer)
+            self.new.answers.items.items) }
         ensures events { self.new.events.items ≡ self.old.events.items }
     {
-        let place = place_of_answer(&self.answers, ticket)?;
-        let (_, answer) = self.answers.remove(place);
-        Some(answer)
+        self.answers.take(ticket)
     }
-}
-
-/// The place of the first answer under a ticket.
-fn place_of_answer(answers: &[(Ticket, Answer)], ticket: Ticket) -> Option<usize>
-    ensures { result ≡ position (is_under ticket.0) answers.now }
-{
-    answers.iter().position(|kept| kept.0 == ticket)
 }
 
 /// The place of the first composite that has an event of this request.

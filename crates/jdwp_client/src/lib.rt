@@ -2,18 +2,22 @@
 //! came, over any pipe.
 #![tactic(auto)]
 
+mod answers;
 mod asking;
 mod client;
 mod errors;
 mod holding;
 mod kept;
 mod laws;
+mod limits;
 mod options;
 mod turning;
 mod unanswered;
+mod waiters;
 mod waiting;
 
 pub use client::Client;
-pub use errors::{ClientError, Loss};
-pub use holding::is_surely_suspended;
+pub use errors::{Awaited, ClientError, Loss};
+pub use holding::{is_surely_suspended, may_free};
+pub use limits::LimitedPipe;
 pub use options::Options;

@@ -22,9 +22,9 @@ pub(crate) fn turn_and_keep(
     requires is_open { ends.is_open debugger.old.end ≡ true }
     requires written { debugger.old.end.outgoing ≡ [] }
     ensures ok { IfOk result (λ handled. TurnsKept handled debugger.old kept.old.events.items
-        kept.old.answers.items debugger.new kept.new.events.items kept.new.answers.items) }
+        kept.old.answers.items.items debugger.new kept.new.events.items kept.new.answers.items.items) }
     ensures err { IfErr result (λ e. FailsKept most e debugger.old kept.old.events.items
-        kept.old.answers.items debugger.new kept.new.events.items kept.new.answers.items) }
+        kept.old.answers.items.items debugger.new kept.new.events.items kept.new.answers.items.items) }
 {
     kept.make_room(most)?;
     debugger.session();

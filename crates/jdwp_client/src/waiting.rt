@@ -1,7 +1,7 @@
 //! Waiting for what comes.
 ghost use Rattle.std.specs.Prelude.{◌≡◌, ◌<◌, [], false, true, Some, IfErr, IfOk, IsTrue, OnOk};
 ghost use Rattle.jdwp_end.specs.Ends.{is_open, room_of};
-ghost use Rattle.jdwp_pipe.specs.Story.{FailsRead};
+ghost use Rattle.jdwp_end.specs.Story.{FailsRead};
 ghost use Rattle.jdwp_client.specs.Keeping.{has_request};
 ghost use Rattle.jdwp_client.specs.Turning.{FailsKept, TurnsKept};
 ghost use Rattle.jdwp_client.specs.declared.errors.ClientError.TheVariants as error;
@@ -12,9 +12,9 @@ use crate::errors::{ClientError, Loss};
 use crate::turning::turn_and_keep;
 use crate::unanswered::is_unanswered;
 use jdwp_debugger::Ticket;
+use jdwp_end::{NoInput, Pipe, flush_all, read_and_feed, write_out};
 use jdwp_event::Composite;
 use jdwp_layout::Answer;
-use jdwp_pipe::{NoInput, Pipe, flush_all, read_and_feed, write_out};
 use jdwp_wire::IdSizes;
 
 /// How many steps a wait may take. No program lives that long.
@@ -194,7 +194,9 @@ impl<P: Pipe + Drop> Client<P> {
     fn check_waits(&self, ticket: Ticket) -> Result<(), ClientError>
         ensures { IfErr result (λ e. WaitsNot ticket self.now e) }
     {
-        if self.kept.has_answer(ticket) || is_unanswered(&self.debugger, ticket) {
+        if self.kept.has_answer(ticket) || self.kept.waiters.has(ticket) {
+            Ok(())
+        } else if is_unanswered(&self.debugger, ticket) {
             Ok(())
         } else if self.debugger.is_open() {
             Err(ClientError::NotWaiting(ticket))

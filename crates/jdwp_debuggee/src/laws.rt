@@ -1,4 +1,4 @@
-//! Laws of the definitions, each the contract of a function without a body.
+//! Laws: each function says what holds, in its contract, and does nothing; to call it is to cite it.
 ghost use Rattle.std.specs.Prelude.{◌≡◌, ◌≢◌, ◌≤◌, ℕ, List, [], Some, false, true};
 ghost use Rattle.jdwp_machine.specs.Meanings.{Meaning};
 ghost use Rattle.jdwp_debuggee.specs.Settings.{Settings};

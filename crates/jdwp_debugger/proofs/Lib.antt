@@ -22,3 +22,4 @@ pub mod Telling
 pub mod TakenFirst
 pub mod ProtocolTurns
 pub mod ProtocolAsks
+pub mod ProtocolSessions

@@ -1,11 +1,12 @@
 -- Commands that were settled while they were the oldest: they stand in front of those that wait.
-use Rattle.std.proofs.Common.{◌≡◌, ◌∙◌, ℕ, zero, suc, ◌+◌, ◌-◌, ◌≤◌, ◌<◌, Bool, true, false, cond, ◌++◌, List, [], ◌∷◌, length, Option, Some, None, drop, take, remove, is_some, slice_get, sym, ap, subst, refl, eqb, eqb-true, leb, leb-true, leb-false, le-leb, inl, inr, arith}
+use Rattle.std.proofs.Common.{◌≡◌, ◌∙◌, ℕ, zero, suc, ◌+◌, ◌-◌, ◌≤◌, ◌<◌, Bool, true, false, cond, ◌++◌, ◌==◌, List, [], ◌∷◌, length, Option, Some, None, drop, take, remove, is_some, slice_get, sym, ap, subst, refl, eqb, eqb-true, leb, leb-true, leb-false, le-leb, not, inl, inr, arith}
 use Rattle.std.proofs.lemmas.Bool.{cases_Bool, lt-leb}
 use Rattle.std.proofs.lemmas.Iterator.Adapters.{position_from-zero}
 use Rattle.std.proofs.lemmas.List.{drop-append-le, drop-drop, drop-map, length-append, take-append-le}
 use Rattle.std.proofs.lemmas.List.Edits.{length-remove}
 use Rattle.std.proofs.lemmas.Option.{slice_get-map}
 use Rattle.std.specs.Prelude.{OnErr, OnOk, Result, Ok, Err}
+use Rattle.std.specs.Bool.{OnFalse, OnTrue}
 use Rattle.std.specs.List.{AllByRecursion, IsDistinct, position, position_from}
 use Rattle.std.specs.Map.{lookup, keys_of}
 use Rattle.std.specs.Option.{SomeIff, option_map}
@@ -138,6 +139,32 @@ key_behind k (suc s) (x ∷ ks) apart = by (eqb k x) refl (key_behind k s ks apa
     by : (b : Bool) → eqb k x ≡ b → place_behind s (position_from (eqb k) 0 ks) ≡ position_from (eqb k) 0 (drop s ks) → place_behind (suc s) (cond b (Some 0) (position_from (eqb k) 1 ks)) ≡ position_from (eqb k) 0 (drop s ks)
     by true e rest = behind_first s ∙ sym (none_later k 0 s ks (subst (λ (n : ℕ). AllByRecursion (λ y. eqb n y ≡ false) ks) (sym (eqb-true k x e)) apart.0))
     by false e rest = ap (place_behind (suc s)) (position-on k 0 ks) ∙ behind_more s (position_from (eqb k) 0 ks) ∙ rest
+
+-- the oldest is found at once
+pub oldest_place : (id : ℕ) (ps : List Asked) (p : Asked) → slice_get ps 0 ≡ Some p → (p.id == id) ≡ true → place_of id ps ≡ Some 0
+oldest_place id [] p here is = absurd cc
+oldest_place id (q ∷ qs) p here is =
+    let same : q ≡ p = cc in
+    ap (λ (b : Bool). cond b (Some 0) (position_from (has_id id) 1 qs)) (ap (λ (a : Asked). a.id == id) same ∙ is)
+
+pub oldest_first : (id : ℕ) (ps : List Asked) (p : Asked) → slice_get ps 0 ≡ Some p → OnTrue (p.id == id) (place_of id ps ≡ Some 0)
+oldest_first id ps p here = by (p.id == id) refl
+  where
+    by : (b : Bool) → (p.id == id) ≡ b → OnTrue b (place_of id ps ≡ Some 0)
+    by true is = oldest_place id ps p here is
+    by false is = tt
+
+-- what waits under no id stands under none where none is settled
+pub none_settled : (s id : ℕ) (es : List (ℕ × kept.Asked)) → is_outstanding (waiting_in s es) id ≡ false → OnFalse (not (eqb s 0)) (lookup (eqb id) es ≡ None)
+none_settled s id es free = by (eqb s 0) refl
+  where
+    by : (b : Bool) → eqb s 0 ≡ b → OnFalse (not b) (lookup (eqb id) es ≡ None)
+    by true is = subst (λ (n : ℕ). lookup (eqb id) (drop n es) ≡ None) (eqb-true s 0 is) (none_waits s id es free)
+    by false is = tt
+
+pub where_false : {P : Type 0} (b : Bool) → b ≡ false → OnFalse b P → P
+where_false true is holds = absurd cc
+where_false false is holds = holds
 
 -- an id that is found in the whole waits where it stands behind the settled ones
 pub place_waits : (id s : ℕ) (es : List (ℕ × kept.Asked)) (found : Option ℕ) → IsDistinct eqb (keys_of es) → found ≡ position (eqb id) (keys_of es) → place_behind s found ≡ place_of id (waiting_in s es)

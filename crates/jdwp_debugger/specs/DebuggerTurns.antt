@@ -22,7 +22,7 @@ use Rattle.jdwp_debugger.specs.declared.faults.DebuggerFault.TheVariants as code
 use Rattle.jdwp_debugger.specs.declared.heads.Head.{Head}
 use Rattle.jdwp_debugger.specs.declared.heads.Head.TheVariants as head
 use Rattle.jdwp_debugger.specs.declared.order.Order.{Order}
-use Rattle.jdwp_debugger.specs.declared.reading.Known.{Known}
+use Rattle.jdwp_debugger.specs.declared.reading.PacketReader.{PacketReader}
 use Rattle.jdwp_debugger.specs.declared.reading.News as declared
 use Rattle.jdwp_debugger.specs.declared.reading.News.TheVariants as news
 use Rattle.jdwp_debugger.specs.declared.turning.Read.{Read}
@@ -189,7 +189,7 @@ Enters message used header (Measures place answer w cs) old told new =
 -- ---- what is refused
 
 -- the same of what the code reads by
-abbrev pub reading : Known → Reading
+abbrev pub reading : PacketReader → Reading
 reading known = record { order = known.order; sizes = known.sizes; parked = known.parked.now; pending = known.pending.now }
 
 abbrev pub bad_where : Bool → Option DebuggerFault

@@ -1,7 +1,8 @@
 -- What a debugger's turns and questions do, in the protocol's words (JDWP specification, "JDWP Packets", and "Protocol Details":
 -- VirtualMachine, ThreadReference, EventRequest and Event.Composite). All of it follows from what they answer and leave (`DebuggerTurns`,
 -- `Asking`).
-use Rattle.std.specs.Prelude.{◌≡◌, ℕ, ◌+◌, ◌++◌, ◌∷◌, false, List, [], length, remove, slice_get, Option, Some, Result, Ok, Err}
+use Rattle.std.specs.Prelude.{◌≡◌, ℕ, ◌+◌, ◌++◌, ◌∷◌, false, List, [], length, remove, slice_get, Option, Some, None, Result, Ok, Err}
+use Rattle.std.specs.Option.{option_map}
 use Rattle.jdwp_wire.specs.Frames.{packet_bytes}
 use Rattle.jdwp_wire.specs.Streams.{Packet, Whole}
 use Rattle.jdwp_wire.specs.Widths.{Widths}
@@ -17,7 +18,9 @@ use Rattle.jdwp_action.specs.CommandPackets.{carried_bytes}
 use Rattle.jdwp_debugger.specs.declared.faults.DebuggerFault.{DebuggerFault}
 use Rattle.jdwp_debugger.specs.declared.turning.Read.{Read}
 use Rattle.jdwp_debugger.specs.Asking.{IsNextFree}
-use Rattle.jdwp_debugger.specs.Debuggers.{Asked, Debugger}
+use Rattle.jdwp_debugger.specs.declared.pending.Ticket.{Ticket}
+use Rattle.jdwp_debugger.specs.Debuggers.{Asked, Debugger, Unanswered, at_place, unanswered}
+use Rattle.jdwp_debugger.specs.Holding.{is_held}
 use Rattle.jdwp_debugger.specs.DebuggerTurns.{Answered, Told, read_meaning}
 use Rattle.jdwp_debugger.specs.News.{answer_by, place_of, widths_by}
 use Rattle.jdwp_mirror.specs.KnownThreads.{count_in}
@@ -32,6 +35,23 @@ count d t = count_in d.mirror.threads t
 -- the session is over, and nothing is known any more: the end is closed, and the mirror is empty
 abbrev pub IsOver : Debugger → Type 0
 IsOver d = (is_open d.end ≡ false) × (d.mirror ≡ empty_mirror)
+
+-- no thread is held for suspended, and of none is a suspend count known
+abbrev pub HoldsNobody : Debugger → Type 0
+HoldsNobody d = (t : ℕ) → (is_held d t ≡ false) × (count d t ≡ None)
+
+-- ---- the connection is lost
+
+-- the number of the ticket at a place, and that of the command at a place among those that wait under tickets, in the order asked
+abbrev pub ticket_at : List Ticket → ℕ → Option ℕ
+ticket_at tickets place = option_map (λ (k : Ticket). k.0) (slice_get tickets place)
+
+abbrev pub ticket_asked : List Asked → ℕ → Option ℕ
+ticket_asked pending place = option_map (λ (u : Unanswered). u.ticket) (at_place (unanswered pending) place)
+
+-- Each command that waits under a ticket is told as lost, once, in the order asked, and nothing else is.
+abbrev pub LosesEach : List Asked → List Ticket → Type 0
+LosesEach pending lost = (place : ℕ) → ticket_at lost place ≡ ticket_asked pending place
 
 -- ---- turns
 

@@ -1,5 +1,5 @@
 //! Commands as they are asked: why they are not, and their packets.
-ghost use Rattle.std.specs.Prelude.{◌≡◌, ◌<◌, ◌≤◌, ◌^◌, ◌++◌, ℕ, IfOk, MatchOption, None, OnOk, false, is_none, length, true};
+ghost use Rattle.std.specs.Prelude.{◌≡◌, ◌<◌, ◌≤◌, ◌^◌, ◌++◌, ℕ, MatchOption, None, OnOk, false, is_none, length, true};
 ghost use Rattle.jdwp_wire.specs.Frames.{IsPacket};
 ghost use Rattle.jdwp_wire.specs.Reading.{in_usize};
 ghost use Rattle.jdwp_layout.specs.Grammar.{EncodesData};
@@ -14,7 +14,7 @@ use jdwp_layout::numbers::EVENT;
 use jdwp_layout::{Datum, Layout, data_size, layout_of, refusal, write};
 use jdwp_mirror::{Carried, Command};
 use jdwp_wire::{Header, IdSizes, NoMemory, PacketKind};
-use std::alloc::{AllocFailed, Global};
+use std::alloc::AllocFailed;
 use thiserror::Error;
 
 /// Why a command was not asked. Nothing has changed.
@@ -167,19 +167,19 @@ pub(crate) struct Admitted<'a> {
 }
 
 impl<'a> Admitted<'a> {
-    /// The packet of the command under an id.
+    /// Writes the packet of the command under an id, in place of what the buffer had.
     ///
     /// # Errors
     /// `NoMemory` where an allocation was refused.
-    pub fn packet(&self, alloc: Global, id: u32, command: &Command) -> Result<Vec<u8>, NoMemory>
+    pub fn write(&self, id: u32, command: &Command, packet: &mut Vec<u8>) -> Result<(), NoMemory>
         requires bytes { body_bytes self.now.sizes self.now.body
             ≡ carried_bytes self.now.sizes command.now.carried }
         requires size { self.now.size ≡ packet_length self.now.sizes command.now }
         requires fits { self.now.size < 2 ^ 32 }
-        ensures bytes { IfOk result (λ packet. packet.items
+        ensures bytes { OnOk result (packet.new.items
             ≡ command_bytes self.now.sizes id command.now) }
-        ensures length { IfOk result (λ packet. length packet.items ≡ self.now.size) }
-        ensures encoded { IfOk result (λ packet. EncodesBody self.now.sizes self.now.body) }
+        ensures length { OnOk result (length packet.new.items ≡ self.now.size) }
+        ensures encoded { OnOk result (EncodesBody self.now.sizes self.now.body) }
         ensures sendable { (limit : ℕ) → self.now.size ≤ limit
             → IsPacket limit (command_header self.now.sizes id command.now)
             (carried_bytes self.now.sizes command.now.carried) }
@@ -192,9 +192,10 @@ impl<'a> Admitted<'a> {
                 number: command.number(),
             },
         };
-        let mut packet = Vec::with_capacity(alloc, self.size)?;
+        packet.clear();
+        packet.reserve(self.size)?;
         packet.extend_from_slice(&header.to_bytes())?;
-        self.body.append(&self.sizes, &mut packet)?;
-        Ok(packet)
+        self.body.append(&self.sizes, packet)?;
+        Ok(())
     }
 }

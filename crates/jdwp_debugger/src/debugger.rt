@@ -4,6 +4,7 @@ ghost use Rattle.jdwp_end.specs.declared.phase.Phase.TheVariants.{AwaitingHandsh
 ghost use Rattle.jdwp_end.specs.Ends as ends;
 ghost use Rattle.jdwp_end.specs.Ends.{front_of, most_outgoing, room_of};
 ghost use Rattle.jdwp_wire.specs.Bytes.{IsBytes};
+ghost use Rattle.jdwp_wire.specs.Handshake.{handshake_bytes};
 ghost use Rattle.jdwp_wire.specs.Limits.{AreLimits, standard_limits};
 ghost use Rattle.jdwp_wire.specs.Streams.{More};
 ghost use Rattle.jdwp_wire.specs.Widths.{Widths};
@@ -13,8 +14,8 @@ ghost use Rattle.jdwp_apart.specs.Following.{Following};
 ghost use Rattle.jdwp_watch.specs.Targets.{CountsAtLeast, InEachTarget, IsSuspended};
 ghost use Rattle.jdwp_debugger.specs.declared.order.Order.TheVariants.{One};
 ghost use Rattle.jdwp_debugger.specs.FollowingKept.{following};
-ghost use Rattle.jdwp_mirror.specs.CommandKinds.{object_id};
-ghost use Rattle.jdwp_debugger.specs.Protocol.{IsOver, PutsPacket, WaitsUnder};
+ghost use Rattle.jdwp_event.specs.Told.{object_id};
+ghost use Rattle.jdwp_debugger.specs.Protocol.{HoldsNobody, IsOver, LosesEach, PutsPacket, WaitsUnder};
 ghost use Rattle.jdwp_debugger.specs.Holding.{at_least, is_held, is_named, named_in, surely};
 ghost use Rattle.std.specs.Map.Iter.{GivesInOrder};
 ghost use Rattle.jdwp_value.specs.declared.id.ObjectId.{ObjectId as Id};
@@ -26,8 +27,9 @@ ghost use Rattle.jdwp_mirror.specs.Faults.{PARKED_MOST};
 ghost use Rattle.jdwp_mirror.specs.Mirrors.{empty_mirror};
 
 use crate::asking::{Admitted, Body, Refused};
-use crate::following::{begin, check_room, note_put};
+use crate::following::{begin, check_room, note_put, put_where_followed};
 use crate::heads::{Head, Heads};
+use crate::laws;
 use crate::lost::Lost;
 use crate::order::Order;
 use crate::parked::Parked;
@@ -37,10 +39,11 @@ use jdwp_apart::shows_only_suspended_threads;
 use jdwp_end::{End, Front};
 use jdwp_mirror::{Command, Mirror};
 use jdwp_value::ObjectId;
-use jdwp_watch::{Ledger, NamedThreads, Put};
+use jdwp_watch::{Ledger, NamedThreads};
 use jdwp_wire::{HANDSHAKE, IdSizes, Limits, NoMemory};
 use std::alloc::Global;
 use std::marker::Model;
+use std::mem;
 
 /// The last ticket that there is.
 const LAST_TICKET: u64 = u64::MAX;
@@ -60,6 +63,8 @@ pub struct Debugger {
     pub(crate) alloc: Global,
     /// With the commands that wait, what is followed of the session.
     pub(crate) ledger: Option<Ledger>,
+    /// The packet of the last command that was asked: room for that of the next.
+    packet: Vec<u8>,
 }
 
 impl Model for Debugger {
@@ -121,7 +126,7 @@ impl Debugger {
     ) -> Result<Debugger, NoMemory>
         ensures { IfOk result (λ d. d ≡ new_debugger_in order limits first_id) }
     {
-        are_limits(&limits);
+        laws::are_limits(&limits);
         Ok(Debugger {
             order,
             end: End::new(alloc, limits)?,
@@ -134,6 +139,7 @@ impl Debugger {
             last: Heads::new(),
             alloc,
             ledger: None,
+            packet: Vec::new(alloc),
         })
     }
 
@@ -158,6 +164,16 @@ impl Debugger {
             × (has_tickets self.old.pending ≡ false)) }
         ensures attached { IsTrue result → self.new ≡ attached self.old }
         ensures refused { result ≡ false → self.new ≡ self.old }
+
+        // A session begins: the handshake, 14 bytes, is all that waits to leave, and no byte came.
+        ensures handshake { IsTrue result → self.new.end.outgoing ≡ handshake_bytes }
+        ensures unread { IsTrue result → self.new.end.incoming ≡ [] }
+        // Nobody is held, no event request is known, and no command waits. Ids of packets and tickets go on.
+        ensures nobody { IsTrue result → HoldsNobody self.new }
+        ensures no_requests { IsTrue result → self.new.mirror.requests ≡ [] }
+        ensures none_waits { IsTrue result → self.new.pending ≡ [] }
+        ensures goes_on { (self.new.next_id ≡ self.old.next_id)
+            × (self.new.tickets ≡ self.old.tickets) }
     {
         if self.end.is_open() || self.pending.has_tickets() {
             return false;
@@ -209,27 +225,29 @@ impl Debugger {
             × IsRefusal e (refusal_of_ask self.old command)) }
     {
         let id = self.pending.next_free(self.next_id);
-        let packet = self.packet_to_ask(alloc, id, &command)?;
+        let mut packet = mem::replace(&mut self.packet, Vec::new(alloc));
+        self.write_packet(id, &command, &mut packet)?;
         check_room(&self.ledger)?;
         let ticket = Ticket(self.tickets + 1);
-        let put = Put::of(&command);
+        let put = put_where_followed(&self.ledger, &command);
         self.pending.push(id, Some(ticket), command)?;
         note_put(&mut self.ledger, put);
         self.end.enqueue(&packet);
+        self.packet = packet;
         self.next_id = id.wrapping_add(1);
         self.tickets = ticket.0;
         Ok(ticket)
     }
 
-    /// The packet of a command under an id, where it may be asked.
-    fn packet_to_ask(&self, alloc: Global, id: u32, command: &Command) -> Result<Vec<u8>, Refused>
-        ensures ok { IfOk result (λ packet. MayLeave self.now command.now id packet.items) }
+    /// Writes the packet of a command under an id, where it may be asked, in place of what the buffer had.
+    fn write_packet(&self, id: u32, command: &Command, packet: &mut Vec<u8>) -> Result<(), Refused>
+        ensures ok { OnOk result (MayLeave self.now command.now id packet.new.items) }
         ensures err { IfErr result (λ e. IsRefusal e (refusal_of_ask self.now command.now)) }
     {
         match self.admit(command) {
             Ok(admitted) => {
-                let packet = admitted.packet(alloc, id, command)?;
-                Ok(packet)
+                admitted.write(id, command, packet)?;
+                Ok(())
             }
             Err(refused) => Err(refused),
         }
@@ -279,9 +297,19 @@ impl Debugger {
         ensures tickets { result ≡ tickets_of self.old.pending }
         ensures few { length result ≤ self.old.end.limits.pending }
         ensures lost { self.new ≡ lost_debugger self.old }
-        // The end is closed, the mirror is empty, and no command waits.
+
+        // Each command that waits under a ticket is told as lost, once, in the order asked.
+        ensures each { LosesEach self.old.pending result }
+        // The end is closed, the mirror is empty, nobody is held, and no command waits. Ids of packets and tickets go on.
         ensures over { IsOver self.new }
+        ensures nobody { HoldsNobody self.new }
         ensures none { self.new.pending ≡ [] }
+        ensures goes_on { (self.new.next_id ≡ self.old.next_id)
+            × (self.new.tickets ≡ self.old.tickets) }
+        // The loss is noticed; what came and was not handled is dropped, and what waited to leave never does.
+        ensures noticed { self.new.end.session.lost ≡ true }
+        ensures unread { self.new.end.incoming ≡ [] }
+        ensures unsent { self.new.end.outgoing ≡ [] }
     {
         let lost = Lost::of(&self.pending);
         self.end.lose();
@@ -498,14 +526,4 @@ impl Debugger {
         self.end.invariants();
         let _id = self.next_id;
     }
-}
-
-/// All limits are some that there may be. It does nothing.
-fn are_limits(limits: &Limits)
-    ensures { AreLimits limits.now.packet limits.now.live limits.now.requests limits.now.pending }
-{
-    let _packet = limits.packet();
-    let _live = limits.live();
-    let _requests = limits.requests();
-    let _pending = limits.pending();
 }

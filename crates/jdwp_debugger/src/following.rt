@@ -2,7 +2,7 @@
 ghost use Rattle.std.specs.Prelude.{◌≡◌, ◌<◌, IfOk, OnErr, OnOk, is_some, true};
 ghost use Rattle.jdwp_apart.specs.Messages as messages;
 ghost use Rattle.jdwp_mirror.specs.Messages.{id_sizes};
-ghost use Rattle.jdwp_watch.specs.Ledgers.{is_told};
+ghost use Rattle.jdwp_watch.specs.Ledgers.{is_told, put_of};
 ghost use Rattle.jdwp_debugger.specs.FollowingKept.{AreReported, HasRoom, IsAnswered, IsDue, IsFirstOf, IsReported, ledger_put};
 ghost use Rattle.jdwp_debugger.specs.Debuggers.{first_in};
 
@@ -34,6 +34,16 @@ pub(crate) fn check_room(ledger: &Option<Ledger>) -> Result<(), NoMemory>
     match ledger {
         Some(kept) if !kept.has_room() => Err(NoMemory),
         _ => Ok(()),
+    }
+}
+
+/// What a command is that is put, where that is followed.
+pub(crate) fn put_where_followed(ledger: &Option<Ledger>, command: &Command) -> Put
+    ensures { ledger_put result ledger.now ≡ ledger_put (put_of command.now) ledger.now }
+{
+    match ledger {
+        Some(_) => Put::of(command),
+        None => Put::Asks,
     }
 }
 

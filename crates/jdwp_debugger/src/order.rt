@@ -14,9 +14,9 @@ ghost use Rattle.jdwp_mirror.specs.FaultParts.{IsData};
 ghost use Rattle.jdwp_mirror.specs.KnownThreads.{count_in};
 ghost use Rattle.jdwp_mirror.specs.Messages.{Reply, Report, Ticket};
 
-use jdwp_event::{Composite, Event, EventKind, Policy};
+use jdwp_event::{Composite, Event, EventKind, Policy, has_event_of};
 use jdwp_layout::{Answer, Scalar};
-use jdwp_mirror::{Command, Mirror, has_event_of, is_bad_composite};
+use jdwp_mirror::{Command, Mirror, is_bad_composite};
 use jdwp_watch::tells_of_threads;
 use jdwp_wire::NoMemory;
 use std::alloc::Global;

@@ -1,9 +1,11 @@
 //! The commands that wait for replies.
-ghost use Rattle.std.specs.Prelude.{◌≡◌, ◌<◌, ◌≤◌, ◌^◌, ◌++◌, ◌∷◌, [], IfSome, OnErr, OnOk, Some, drop, false, length, remove, slice_get};
+ghost use Rattle.std.specs.Prelude.{◌≡◌, ◌<◌, ◌≤◌, ◌^◌, ◌++◌, ◌∷◌, [], IfSome, None, OnErr, OnOk, Some, drop, eqb, false, length, remove, slice_get};
+ghost use Rattle.std.specs.Bool.{OnFalse, OnTrue};
+ghost use Rattle.std.specs.Map.{lookup};
 ghost use Rattle.jdwp_debugger.specs.Asking.{IsNextFree, is_outstanding};
 ghost use Rattle.jdwp_debugger.specs.Debuggers.{at_place, has_tickets, seen_unanswered, unanswered};
 ghost use Rattle.jdwp_debugger.specs.News.{place_of};
-ghost use Rattle.jdwp_debugger.specs.PendingKept.{asked_of, bare};
+ghost use Rattle.jdwp_debugger.specs.PendingKept.{asked_of, bare, waiting_in};
 ghost use Rattle.jdwp_debugger.specs.DebuggerTurns.{is_next};
 ghost use Rattle.jdwp_debugger.specs.FollowingKept.{all_lowered};
 ghost use Rattle.jdwp_watch.specs.Lowerings.{lowers_one};
@@ -81,6 +83,14 @@ fn take_out(commands: &mut IndexMap<u32, Asked>, settled: &mut usize)
     *settled = 0;
 }
 
+/// Whether the id of a settled one is this, under which none waits. Where none is settled nothing is looked up.
+fn is_settled(commands: &IndexMap<u32, Asked>, settled: usize, id: u32) -> bool
+    requires { is_outstanding (waiting_in settled commands.now.entries) id ≡ false }
+    ensures { OnFalse result (lookup (eqb id) commands.now.entries ≡ None) }
+{
+    settled != 0 && commands.contains_key(&id)
+}
+
 /// By how much a command that waits lowers the count of a thread, where ids are so wide.
 fn lowered_by(command: &Command, thread: ObjectId, sizes: &IdSizes) -> u64
     ensures value { result ≡ lowers_one sizes.now command.now thread.0 }
@@ -112,11 +122,36 @@ impl Pending {
     pub fn has_outstanding(&self, id: u32) -> bool
         ensures { result ≡ is_outstanding self.now id }
     {
-        self.place_under(id).is_some()
+        self.found_under(id).is_some()
     }
 
-    /// The place of the command that waits under an id; None where none does.
+    /// The place of the command that waits under an id; None where none does. A target answers in the order asked as a rule, so the oldest is
+    /// looked at first.
     pub fn place_under(&self, id: u32) -> Option<usize>
+        ensures place { result ≡ place_of id self.now }
+        ensures within { IfSome result (λ place. place < length self.now) }
+    {
+        if self.is_oldest(id) {
+            Some(0)
+        } else {
+            self.found_under(id)
+        }
+    }
+
+    /// Whether the oldest that waits does so under this id.
+    fn is_oldest(&self, id: u32) -> bool
+        ensures first { OnTrue result (place_of id self.now ≡ Some 0) }
+        ensures some { OnTrue result (0 < length self.now) }
+    {
+        if self.len() == 0 {
+            return false;
+        }
+        let (oldest, _) = self.at(0);
+        oldest == id
+    }
+
+    /// The place of the command that waits under an id, found by the id; None where none does.
+    fn found_under(&self, id: u32) -> Option<usize>
         ensures place { result ≡ place_of id self.now }
         ensures within { IfSome result (λ place. place < length self.now) }
     {
@@ -152,8 +187,8 @@ impl Pending {
             ++ record { id = id; ticket = ticket; command = command } ∷ []) }
         ensures err { OnErr result (self.new ≡ self.old) }
     {
-        if self.commands.contains_key(&id) {
-            take_out(&mut self.commands, &mut self.settled); // it is under a settled one
+        if is_settled(&self.commands, self.settled, id) {
+            take_out(&mut self.commands, &mut self.settled);
         }
         match self.commands.insert(id, Asked { ticket, command }) {
             Ok(_) => Ok(()),

@@ -41,7 +41,7 @@ pub(crate) enum News {
 
 /// What packets are read by.
 #[derive(Clone, Copy)]
-pub(crate) struct Known<'a> {
+pub(crate) struct PacketReader<'a> {
     /// In which order the target sends.
     pub order: Order,
     /// The widths of ids; None until they are known.
@@ -52,7 +52,7 @@ pub(crate) struct Known<'a> {
     pub pending: &'a Pending,
 }
 
-impl<'a> Known<'a> {
+impl<'a> PacketReader<'a> {
     /// What the packet in front of an end says, which has this header and takes so many bytes. Its data are read where they lie, or joined
     /// where they wrap, and the end is as it was.
     pub fn read_front(

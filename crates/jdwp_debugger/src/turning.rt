@@ -23,6 +23,8 @@ ghost use Rattle.jdwp_event.specs.Told.{composite_thread, is_vm_death};
 ghost use Rattle.jdwp_layout.specs.Meanings.{DatumMeaning, Int, One, ScalarMeaning};
 ghost use Rattle.jdwp_layout.specs.declared.answer.Answer as meant;
 ghost use Rattle.jdwp_action.specs.Actions as asked;
+ghost use Rattle.jdwp_action.specs.Actions.{action_of};
+ghost use Rattle.jdwp_mirror.specs.CommandKinds.{kind_of};
 ghost use Rattle.jdwp_debugger.specs.Holding.{is_held};
 ghost use Rattle.jdwp_debugger.specs.Protocol.{AnswersOwn, Hears, IsOver, Tells, count};
 
@@ -33,12 +35,12 @@ use crate::heads::Head;
 use crate::order::Order;
 use crate::parked::Parked;
 use crate::pending::Ticket;
-use crate::reading::{Known, News};
+use crate::reading::{News, PacketReader};
 use jdwp_end::Front;
-use jdwp_event::{Composite, EventKind};
+use jdwp_event::{Composite, EventKind, has_event_of};
 use jdwp_layout::Answer;
 use jdwp_layout::numbers::{ID_SIZES, VIRTUAL_MACHINE};
-use jdwp_mirror::{Command, CommandKind, Mirror, has_event_of};
+use jdwp_mirror::{Command, CommandKind, Mirror};
 use jdwp_watch::{Ledger, Put};
 use jdwp_wire::{HANDSHAKE, Header, IdSizes, PacketKind};
 use std::alloc::Global;
@@ -168,13 +170,13 @@ impl Debugger {
         ensures { (body : List ℕ) → front_of self.old.end ≡ Whole (Packet header body) used
             → HandlesAt (Packet header body) used self.old result self.new }
     {
-        let known = Known {
+        let reader = PacketReader {
             order: self.order,
             sizes: self.sizes,
             parked: &self.parked,
             pending: &self.pending,
         };
-        match known.read_front(alloc, &mut self.end, header, used) {
+        match reader.read_front(alloc, &mut self.end, header, used) {
             Ok(news) => self.enter(alloc, header, used, news),
             Err(fault) => self.fail(fault),
         }
@@ -219,15 +221,36 @@ impl Debugger {
                 self.take_answer(alloc, (header, used), place, ticket, answer)
             }
             News::Measures(place, answer, sizes, composites) => {
-                match self.learn_waited(alloc, place, &answer, &composites) {
-                    Ok(learned) => {
-                        let closes = has_death(&composites);
-                        self.take_sizes((header, used), place, learned, sizes, closes);
-                        Ok(Read::Sizes(composites))
-                    }
-                    Err(fault) => self.fail(fault),
-                }
+                self.measure(alloc, (header, used), place, answer, sizes, composites)
             }
+        }
+    }
+
+    /// The widths of ids are told: the composites that waited for them are judged and learned, and then the answer.
+    fn measure(
+        &mut self,
+        alloc: Global,
+        packet: (Header, usize),
+        place: usize,
+        answer: Answer,
+        sizes: IdSizes,
+        composites: Vec<Composite>,
+    ) -> Result<Read, DebuggerFault>
+        requires said { IsSaid self.old packet.0 packet.1
+            (news.Measures place answer sizes composites.items) }
+        requires bytes { IsBytes self.old.end.incoming }
+        ensures { (content : List ℕ) → front_of self.old.end
+            ≡ Whole (Packet packet.0 content) packet.1
+            → EntersAt packet.0 content packet.1
+            (news.Measures place answer sizes composites.items) self.old result self.new }
+    {
+        match self.learn_waited(alloc, place, &answer, &composites) {
+            Ok(learned) => {
+                let closes = has_death(&composites);
+                self.take_sizes(packet, place, learned, sizes, closes);
+                Ok(Read::Sizes(composites))
+            }
+            Err(fault) => self.fail(fault),
         }
     }
 
@@ -482,9 +505,19 @@ fn closes_session(command: &Command, answer: &Answer) -> bool
     ensures { (ticket : MessageTicket) → result ≡ ends (Reply ticket command.now answer.now) }
 {
     match answer {
-        Answer::Data(_) => is_dispose(command.kind()),
+        Answer::Data(_) => is_of_dispose(command),
         Answer::Error(_) => false,
     }
+}
+
+/// Whether the command is Dispose. What one of another set asks is not looked at.
+fn is_of_dispose(command: &Command) -> bool
+    ensures { result ≡ is_dispose_kind (kind_of (action_of command.now)) }
+{
+    if command.set() != VIRTUAL_MACHINE {
+        return false;
+    }
+    is_dispose(command.kind())
 }
 
 fn is_dispose(kind: CommandKind) -> bool

@@ -1,2 +1,4 @@
 pub mod Fronts
 pub mod TwoParts
+pub mod Known
+pub mod Leaving

@@ -7,3 +7,7 @@ pub mod VecLends
 pub mod FrontLaws
 pub mod CarryingLaws
 pub mod TakingLaws
+pub mod Endings
+pub mod Moving
+pub mod Story
+pub mod Streams

@@ -9,7 +9,8 @@ ghost use Rattle.jdwp_end.specs.Ends as ends;
 ghost use Rattle.jdwp_end.specs.Ends.{HasPacket, TellsFront, closed_end, front_of, lost_end, most_outgoing, new_end, opened_end, room_of, with_enqueued, with_fed, with_handled, with_taken};
 
 use crate::front::Front;
-use crate::parts::{are_bytes, in_two_pieces, join, packet_standing, shared_behind, take_into};
+use crate::laws;
+use crate::parts::{in_two_pieces, join, packet_standing, shared_behind, take_into};
 use crate::phase::Phase;
 use crate::session::Session;
 use circular_buffer::HeapCircularBuffer;
@@ -171,7 +172,7 @@ impl End {
         ensures flows { self.now.outgoing ≡ [] → ends.is_paused self.now ≡ false }
     {
         let (first, second) = self.incoming.as_slices();
-        are_bytes(first, second);
+        laws::are_bytes(first, second);
         if self.is_paused() {
             return Front::More;
         }
@@ -197,7 +198,7 @@ impl End {
             → front_of self.now ≡ Whole (Packet header body) used → lent.now ≡ body) }
     {
         let (first, second) = self.incoming.as_slices();
-        are_bytes(first, second);
+        laws::are_bytes(first, second);
         if used <= first.len() {
             Some(&first[HEADER_LENGTH..used])
         } else {
@@ -213,7 +214,7 @@ impl End {
             → front_of self.old ≡ Whole (Packet header body) used → result.now ≡ body }
     {
         let (first, second) = self.incoming.as_slices();
-        are_bytes(first, second);
+        laws::are_bytes(first, second);
         join(&mut self.scratch, first, second, used);
         shared_behind(&mut self.scratch, HEADER_LENGTH)
     }
@@ -227,7 +228,7 @@ impl End {
             → ends.is_paused self.now ≡ false → 0 < room_of self.now }
     {
         let (first, second) = self.incoming.as_slices();
-        are_bytes(first, second);
+        laws::are_bytes(first, second);
     }
 
     /// Takes the message in front off, which takes so many bytes: it is handled.
@@ -237,7 +238,7 @@ impl End {
             → self.new ≡ with_handled message used self.old }
     {
         let (first, second) = self.incoming.as_slices();
-        are_bytes(first, second);
+        laws::are_bytes(first, second);
         self.session.handle(first, second, used);
         self.incoming.truncate_front(self.incoming.len() - used);
         self.phase = Phase::Established;

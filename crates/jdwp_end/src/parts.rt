@@ -2,7 +2,6 @@
 ghost use Rattle.std.specs.Prelude.{◌≡◌, ◌≤◌, ◌+◌, ◌++◌, [], drop, length, min, take, vec_capacity};
 ghost use Rattle.std.specs.Borrow.{sem};
 ghost use Rattle.circular_buffer.specs.Buffer.{buffer};
-ghost use Rattle.jdwp_wire.specs.Bytes.{IsBytes};
 ghost use Rattle.jdwp_wire.specs.Frames.{front};
 ghost use Rattle.jdwp_wire.specs.Standing.{TellsStanding};
 ghost use Rattle.jdwp_end.specs.VecLends.{VecStays};
@@ -104,11 +103,4 @@ pub(crate) fn note(history: &mut History, first: &[u8], second: &[u8], used: usi
     let count = used.min(first.len());
     history.extend(&first[..count]);
     history.extend(&second[..used - count]);
-}
-
-/// The elements of two slices of bytes are bytes. It does nothing.
-pub(crate) fn are_bytes(_first: &[u8], _second: &[u8])
-    ensures { IsBytes (_first.now ++ _second.now) }
-{
-    // Only contracts see it.
 }

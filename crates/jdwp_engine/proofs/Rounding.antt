@@ -7,12 +7,12 @@ use Rattle.jdwp_target.specs.declared.target.TargetFault.{TargetFault}
 use Rattle.jdwp_target.specs.declared.target.Turn.{Turn}
 use Rattle.jdwp_target.specs.ReadsBack.{ReleaseReadsBack}
 use Rattle.jdwp_target.specs.Targets.{Target, Ran}
-use Rattle.jdwp_pipe.specs.declared.ended.Ended.{Ended}
-use Rattle.jdwp_pipe.specs.declared.ended.Ended.TheVariants.{Done, LostByRead, LostByWrite, Refused, NoMemory, TurnLimit}
-use Rattle.jdwp_pipe.specs.Endings.{unflushed_end}
-use Rattle.jdwp_pipe.specs.Story.{Story, flushed}
-use Rattle.jdwp_engine.specs.declared.serving.Next.{Next}
-use Rattle.jdwp_engine.specs.declared.serving.Next.TheVariants.{Goes, Ends}
+use Rattle.jdwp_end.specs.declared.pipes.ended.Ended.{Ended}
+use Rattle.jdwp_end.specs.declared.pipes.ended.Ended.TheVariants.{Done, LostByRead, LostByWrite, Refused, NoMemory, TurnLimit}
+use Rattle.jdwp_end.specs.Endings.{unflushed_end}
+use Rattle.jdwp_end.specs.Story.{Story, flushed}
+use Rattle.jdwp_engine.specs.declared.serving.AfterRound.{AfterRound}
+use Rattle.jdwp_engine.specs.declared.serving.AfterRound.TheVariants.{Goes, Ends}
 use Rattle.jdwp_engine.specs.Next.{IfEnds}
 use Rattle.jdwp_engine.specs.Rounds.{StepsEach}
 use Rattle.jdwp_engine.specs.Run.{LosesAtRead, LosesAtWrite, WritesAll}
@@ -29,7 +29,7 @@ pub released-newest : {S : Type 0} (m : Meaning S) (old mid : Target S) (before 
 released-newest m old mid before now turn asks released reads e = subst (λ (x : Story). Moves m old before (Ok true) mid x) (sym e) (Releases turn mid asks released reads)
 
 -- what was put was written, and the session closed; or a write failed
-pub writes-last : {S : Type 0} (m : Meaning S) (old mid new : Target S) (before now after : Story) (next : Next) → Moves m old before (Ok true) mid now
+pub writes-last : {S : Type 0} (m : Meaning S) (old mid new : Target S) (before now after : Story) (next : AfterRound) → Moves m old before (Ok true) mid now
     → IfEnds next (λ ended. (ended ≡ Done) ⊎ (ended ≡ LostByWrite))
     → (next ≡ Ends Done → (is_open mid.end ≡ false) × WritesAll mid new now after × Ran m new)
     → (next ≡ Ends LostByWrite → LosesAtWrite m mid new now after)
@@ -42,7 +42,7 @@ writes-last m old mid new before now after (Ends ended) moves which done fails =
     ]
 
 -- the same behind a release
-pub release-last : {S : Type 0} (m : Meaning S) (old mid new : Target S) (now after : Story) (next : Next) (turn : Turn) → front_of old.end ≡ More → ReleasesNewest m old (Ok turn) mid
+pub release-last : {S : Type 0} (m : Meaning S) (old mid new : Target S) (now after : Story) (next : AfterRound) (turn : Turn) → front_of old.end ≡ More → ReleasesNewest m old (Ok turn) mid
     → ReleaseReadsBack m (length old.deferred - 1) old
     → IfEnds next (λ ended. (ended ≡ Done) ⊎ (ended ≡ LostByWrite))
     → (next ≡ Ends Done → (is_open mid.end ≡ false) × WritesAll mid new now after × Ran m new)
@@ -53,7 +53,7 @@ release-last m old mid new now after (Ends ended) turn asks released reads which
     λ before e. writes-last m old mid new before now after (Ends ended) (released-newest m old mid before now turn asks released reads e) which done fails
 
 -- the same behind steps
-pub steps-last : {S : Type 0} (m : Meaning S) (old mid new : Target S) (now after : Story) (next : Next) → front_of old.end ≡ More → old.deferred ≡ [] → StepsEach m None old (Ok true) mid
+pub steps-last : {S : Type 0} (m : Meaning S) (old mid new : Target S) (now after : Story) (next : AfterRound) → front_of old.end ≡ More → old.deferred ≡ [] → StepsEach m None old (Ok true) mid
     → IfEnds next (λ ended. (ended ≡ Done) ⊎ (ended ≡ LostByWrite))
     → (next ≡ Ends Done → (is_open mid.end ≡ false) × WritesAll mid new now after × Ran m new)
     → (next ≡ Ends LostByWrite → LosesAtWrite m mid new now after)
@@ -75,7 +75,7 @@ starved-last m old mid new now after fault ended asks none each opened which don
     ]
 
 -- no step was made, and the read failed
-pub reads-last : {S : Type 0} (m : Meaning S) (old mid new : Target S) (now after : Story) (next : Next) → front_of old.end ≡ More → old.deferred ≡ [] → StepsEach m None old (Ok false) mid
+pub reads-last : {S : Type 0} (m : Meaning S) (old mid new : Target S) (now after : Story) (next : AfterRound) → front_of old.end ≡ More → old.deferred ≡ [] → StepsEach m None old (Ok false) mid
     → IfEnds next (λ ended. (ended ≡ LostByRead) × LosesAtRead mid new now after)
     → IfEnds next (λ ended. (before : Story) → now ≡ flushed before → LastRound m old before new after ended)
 reads-last m old mid new now after Goes asks none each which = tt
@@ -83,7 +83,7 @@ reads-last m old mid new now after (Ends ended) asks none each (is, loses) =
     λ before e. rw is (CantRead mid now (moved m old mid before now (Ok false) asks none each e) loses)
 
 -- behind the flush that stood before
-pub flushed-last : {S : Type 0} (m : Meaning S) (old new : Target S) (before now after : Story) (next : Next) → now ≡ flushed before
+pub flushed-last : {S : Type 0} (m : Meaning S) (old new : Target S) (before now after : Story) (next : AfterRound) → now ≡ flushed before
     → IfEnds next (λ ended. (before : Story) → now ≡ flushed before → LastRound m old before new after ended)
     → IfEnds next (LastRound m old before new after)
 flushed-last m old new before now after Goes e last = tt

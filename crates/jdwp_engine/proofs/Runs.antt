@@ -22,12 +22,12 @@ use Rattle.jdwp_target.specs.Deeds.{DefersFew, acts_in}
 use Rattle.jdwp_target.specs.ReleaseLaws.{found}
 use Rattle.jdwp_target.specs.Targets.{Target, Ran, full_standing, lost_target, opened_target, with_fed, with_release, with_taken}
 use Rattle.jdwp_target.specs.Turns.{TurnsAt, deferred_at}
-use Rattle.jdwp_pipe.specs.declared.ended.Ended.{Ended}
-use Rattle.jdwp_pipe.specs.declared.ended.Ended.TheVariants as ended
-use Rattle.jdwp_pipe.specs.declared.ended.Ended.TheVariants.{Done, LostByRead, LostByWrite, Refused, TurnLimit}
-use Rattle.jdwp_pipe.specs.Story.{FailsFlush, FailsRead, FailsWrite, Story, flushed, with_read, with_written}
-use Rattle.jdwp_engine.specs.declared.serving.Next.{Next}
-use Rattle.jdwp_engine.specs.declared.serving.Next.TheVariants.{Goes, Ends}
+use Rattle.jdwp_end.specs.declared.pipes.ended.Ended.{Ended}
+use Rattle.jdwp_end.specs.declared.pipes.ended.Ended.TheVariants as ended
+use Rattle.jdwp_end.specs.declared.pipes.ended.Ended.TheVariants.{Done, LostByRead, LostByWrite, Refused, TurnLimit}
+use Rattle.jdwp_end.specs.Story.{FailsFlush, FailsRead, FailsWrite, Story, flushed, with_read, with_written}
+use Rattle.jdwp_engine.specs.declared.serving.AfterRound.{AfterRound}
+use Rattle.jdwp_engine.specs.declared.serving.AfterRound.TheVariants.{Goes, Ends}
 use Rattle.jdwp_engine.specs.Next.{IfEnds}
 use Rattle.jdwp_engine.specs.Outcome.{CallsForMemory, EndsSo, FrontIs, IsFaultOf, IsLost, MayEnd, MayStep}
 use Rattle.jdwp_engine.specs.Run.{GoesOn, InOrder, IsGoing, LosesAtRead, LosesAtWrite, ReadsMore, WritesAll, cost}
@@ -192,7 +192,7 @@ advance-goes s t old new newest why p h =
     rw (h.1.0, h.1.1) (omega (arith, p.costs), λ base start k. going base start s old new k (puts-of old new why p) h.0)
 
 -- a round that ends after a message or steps: the session closed, or a write failed
-advance-ends : {S : Type 0} (m : Meaning S) (s t : Story) (old new newest : Target S) (next : Next) → Advances old new (HasEnded new)
+advance-ends : {S : Type 0} (m : Meaning S) (s t : Story) (old new newest : Target S) (next : AfterRound) → Advances old new (HasEnded new)
     → IfEnds next (λ ended. (ended ≡ Done) ⊎ (ended ≡ LostByWrite))
     → (next ≡ Ends Done → (is_open new.end ≡ false) × WritesAll new newest s t)
     → (next ≡ Ends LostByWrite → LosesAtWrite m new newest s t)
@@ -230,7 +230,7 @@ pub message-goes : {S : Type 0} (m : Meaning S) (s t : Story) (old new newest : 
     → (is_open new.end ≡ true) × WritesAll new newest s t → GoesOn old newest s t
 message-goes m s t old new newest turn reason opened fits ran turned some h = advance-goes s t old new newest (HasEnded new) (message-of m old new turn reason opened fits ran turned some) h
 
-pub message-ends : {S : Type 0} (m : Meaning S) (s t : Story) (old new newest : Target S) (turn : Turn) (next : Next) → ClosesForReason m → is_open old.end ≡ true → IsBytes old.end.incoming → Ran m old → TurnsAt m (front_of old.end) old (Ok turn) new → turn ≢ Nothing
+pub message-ends : {S : Type 0} (m : Meaning S) (s t : Story) (old new newest : Target S) (turn : Turn) (next : AfterRound) → ClosesForReason m → is_open old.end ≡ true → IsBytes old.end.incoming → Ran m old → TurnsAt m (front_of old.end) old (Ok turn) new → turn ≢ Nothing
     → IfEnds next (λ ended. (ended ≡ Done) ⊎ (ended ≡ LostByWrite))
     → (next ≡ Ends Done → (is_open new.end ≡ false) × WritesAll new newest s t × Ran m newest)
     → (next ≡ Ends LostByWrite → LosesAtWrite m new newest s t)
@@ -255,7 +255,7 @@ steps-of old new p = record {
 pub steps-goes : {S : Type 0} (s t : Story) (old new newest : Target S) → StepsOn old new → (is_open new.end ≡ true) × WritesAll new newest s t → GoesOn old newest s t
 steps-goes s t old new newest p h = advance-goes s t old new newest _ p h
 
-pub steps-ends : {S : Type 0} (m : Meaning S) (s t : Story) (old new newest : Target S) (next : Next) → StepsOn old new
+pub steps-ends : {S : Type 0} (m : Meaning S) (s t : Story) (old new newest : Target S) (next : AfterRound) → StepsOn old new
     → IfEnds next (λ ended. (ended ≡ Done) ⊎ (ended ≡ LostByWrite))
     → (next ≡ Ends Done → (is_open new.end ≡ false) × WritesAll new newest s t × Ran m newest)
     → (next ≡ Ends LostByWrite → LosesAtWrite m new newest s t)
@@ -267,7 +267,7 @@ pub release-goes : {S : Type 0} (m : Meaning S) (s t : Story) (old new newest : 
     → (is_open new.end ≡ true) × WritesAll new newest s t → GoesOn old newest s t
 release-goes m s t old new newest place reason opened few is h = advance-goes s t old new newest (HasEnded new) (rw is (release-advances m old place reason opened few)) h
 
-pub release-ends : {S : Type 0} (m : Meaning S) (s t : Story) (old new newest : Target S) (place : ℕ) (next : Next) → ClosesForReason m → is_open old.end ≡ true → DefersFew (full_standing old) → new ≡ with_release m place old
+pub release-ends : {S : Type 0} (m : Meaning S) (s t : Story) (old new newest : Target S) (place : ℕ) (next : AfterRound) → ClosesForReason m → is_open old.end ≡ true → DefersFew (full_standing old) → new ≡ with_release m place old
     → IfEnds next (λ ended. (ended ≡ Done) ⊎ (ended ≡ LostByWrite))
     → (next ≡ Ends Done → (is_open new.end ≡ false) × WritesAll new newest s t × Ran m newest)
     → (next ≡ Ends LostByWrite → LosesAtWrite m new newest s t)
@@ -329,7 +329,7 @@ memory-goes m s t old mid newest made p may h =
     )
 
 -- the same, and a write failed
-pub memory-ends : {S : Type 0} (m : Meaning S) (s t : Story) (old mid newest : Target S) (made : Bool) (next : Next) → StepsIf old mid made → is_open mid.end ≡ true
+pub memory-ends : {S : Type 0} (m : Meaning S) (s t : Story) (old mid newest : Target S) (made : Bool) (next : AfterRound) → StepsIf old mid made → is_open mid.end ≡ true
     → IfEnds next (λ ended. (ended ≡ Done) ⊎ (ended ≡ LostByWrite))
     → (next ≡ Ends Done → (is_open mid.end ≡ false) × WritesAll mid newest s t × Ran m newest)
     → (next ≡ Ends LostByWrite → LosesAtWrite m mid newest s t)
@@ -356,7 +356,7 @@ read-goes s t old new newest same (more, fed, read) =
     rw (fed, read, same) (omega arith, λ base start k. read-going base start s old more k)
 
 -- a round that ends at a read
-pub read-next-ends : {S : Type 0} (m : Meaning S) (s t : Story) (old new newest : Target S) (next : Next) → Ran m old → is_open old.end ≡ true → is_paused old.end ≡ false → front_of old.end ≡ More → old.deferred ≡ [] → new ≡ old
+pub read-next-ends : {S : Type 0} (m : Meaning S) (s t : Story) (old new newest : Target S) (next : AfterRound) → Ran m old → is_open old.end ≡ true → is_paused old.end ≡ false → front_of old.end ≡ More → old.deferred ≡ [] → new ≡ old
     → IfEnds next (λ ended. (ended ≡ LostByRead) × LosesAtRead new newest s t)
     → IfEnds next (EndsSo m old newest s t)
 read-next-ends m s t old new newest Goes ran opened flows more none same which = tt
@@ -408,7 +408,7 @@ flushed-goes {S = S} s mid t old new e goes =
     let on = subst (λ (x : Story). GoesOn old new x t) e goes in
     (on.0, λ base start k. on.1 base start (flushed-going base start s old k))
 
-pub flushed-ends : {S : Type 0} (m : Meaning S) (s mid t : Story) (old new : Target S) (next : Next) → mid ≡ flushed s → IfEnds next (EndsSo m old new mid t) → IfEnds next (EndsSo m old new s t)
+pub flushed-ends : {S : Type 0} (m : Meaning S) (s mid t : Story) (old new : Target S) (next : AfterRound) → mid ≡ flushed s → IfEnds next (EndsSo m old new mid t) → IfEnds next (EndsSo m old new s t)
 flushed-ends m s mid t old new Goes e so = tt
 flushed-ends {S = S} m s mid t old new (Ends ended) e so =
     let on = subst (λ (x : Story). EndsSo m old new x t ended) e so in

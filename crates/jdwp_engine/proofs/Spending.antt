@@ -8,9 +8,9 @@ use Rattle.jdwp_target.specs.declared.target.TargetFault.{TargetFault}
 use Rattle.jdwp_target.specs.declared.target.Turn.{Turn}
 use Rattle.jdwp_target.specs.Targets.{Target, opened_target}
 use Rattle.jdwp_target.specs.Turns.{ReleasesAt, StepsWhere, TurnsAt, is_frozen}
-use Rattle.jdwp_pipe.specs.declared.ended.Ended.{Ended}
-use Rattle.jdwp_pipe.specs.declared.ended.Ended.TheVariants.{Done, LostByRead, LostByWrite, Refused, NoMemory, TurnLimit}
-use Rattle.jdwp_pipe.specs.Story.{Story}
+use Rattle.jdwp_end.specs.declared.pipes.ended.Ended.{Ended}
+use Rattle.jdwp_end.specs.declared.pipes.ended.Ended.TheVariants.{Done, LostByRead, LostByWrite, Refused, NoMemory, TurnLimit}
+use Rattle.jdwp_end.specs.Story.{Story}
 use Rattle.jdwp_engine.specs.Rounds.{StepsEach, Over, Wants}
 use Rattle.jdwp_engine.specs.Rounds as rounds
 use Rattle.jdwp_engine.specs.Sessions.{LastRound, Moves, Round, Rounds, Runs, Serves, Turns, Releases, Steps, Writes, Reads, Closes, CantWrite, CantFlush, CantRead, Faults, WantsToTurn, WantsToRelease, WantsToStep, NoRound, OneMore, All, Until, Leaves, Stays, unflushed_target}

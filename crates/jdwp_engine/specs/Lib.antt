@@ -5,3 +5,4 @@ pub mod Run
 pub mod Sessions
 pub mod Steps
 pub mod RunLaws
+pub mod Serving

@@ -10,9 +10,9 @@ use Rattle.jdwp_debuggee.specs.StepParts.{is_ready}
 use Rattle.jdwp_target.specs.Closings.{IsDispose}
 use Rattle.jdwp_target.specs.Targets.{Target, Ran, lost_target}
 use Rattle.jdwp_target.specs.Turns.{NeedsMemory}
-use Rattle.jdwp_pipe.specs.declared.ended.Ended.{Ended}
-use Rattle.jdwp_pipe.specs.declared.ended.Ended.TheVariants.{Done, LostByRead, LostByWrite, Refused, NoMemory, TurnLimit}
-use Rattle.jdwp_pipe.specs.Story.{Story, flushed}
+use Rattle.jdwp_end.specs.declared.pipes.ended.Ended.{Ended}
+use Rattle.jdwp_end.specs.declared.pipes.ended.Ended.TheVariants.{Done, LostByRead, LostByWrite, Refused, NoMemory, TurnLimit}
+use Rattle.jdwp_end.specs.Story.{Story, flushed}
 use Rattle.jdwp_engine.specs.Run.{InOrder, IsGoing}
 
 -- What is left of the bytes fed, after those of the messages handled: the handshake is looked for in front of it where no message was

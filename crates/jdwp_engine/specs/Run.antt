@@ -7,7 +7,7 @@ use Rattle.jdwp_machine.specs.Meanings.{Meaning}
 use Rattle.jdwp_target.specs.Standings.{stands}
 use Rattle.jdwp_target.specs.Deeds.{with_none_deferred}
 use Rattle.jdwp_target.specs.Targets.{Target, Ran, lost_target, with_fed, with_taken}
-use Rattle.jdwp_pipe.specs.Story.{FailsRead, FailsWrite, Story, with_read, with_written}
+use Rattle.jdwp_end.specs.Story.{FailsRead, FailsWrite, Story, with_read, with_written}
 
 -- From this target and this story on: the session began at its moment, the target was fed what was read, in order, what was written
 -- is a beginning of what the target enqueued, and all of it where no write failed, and before each read all that was written had left.

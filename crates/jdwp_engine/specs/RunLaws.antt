@@ -3,7 +3,7 @@ use Rattle.std.proofs.Common.{◌≡◌, ℕ, ◌+◌, ◌≤◌, inl, inr, subs
 use Rattle.std.proofs.lemmas.Bool.{cases_lt}
 use Rattle.jdwp_machine.specs.Meanings.{Meaning}
 use Rattle.jdwp_target.specs.Targets.{Target}
-use Rattle.jdwp_pipe.specs.Story.{Story}
+use Rattle.jdwp_end.specs.Story.{Story}
 use Rattle.jdwp_engine.specs.Sessions.{NoRound, OneMore, Rounds}
 
 -- so many rounds lead somewhere

@@ -14,10 +14,10 @@ use Rattle.jdwp_target.specs.declared.target.Turn.TheVariants.{Nothing}
 use Rattle.jdwp_target.specs.Targets.{Target, lost_target}
 use Rattle.jdwp_target.specs.ReadsBack.{ReleaseReadsBack, TurnReadsBack}
 use Rattle.jdwp_target.specs.Turns.{ReleasesAt, TurnsAt, deferred_at}
-use Rattle.jdwp_pipe.specs.declared.ended.Ended.{Ended}
-use Rattle.jdwp_pipe.specs.declared.ended.Ended.TheVariants.{Done, LostByRead, LostByWrite, Refused, NoMemory, TurnLimit}
-use Rattle.jdwp_pipe.specs.Endings.{unflushed_end}
-use Rattle.jdwp_pipe.specs.Story.{FailsFlush, Story, flushed}
+use Rattle.jdwp_end.specs.declared.pipes.ended.Ended.{Ended}
+use Rattle.jdwp_end.specs.declared.pipes.ended.Ended.TheVariants.{Done, LostByRead, LostByWrite, Refused, NoMemory, TurnLimit}
+use Rattle.jdwp_end.specs.Endings.{unflushed_end}
+use Rattle.jdwp_end.specs.Story.{FailsFlush, Story, flushed}
 use Rattle.jdwp_engine.specs.Rounds.{StepsEach}
 use Rattle.jdwp_engine.specs.Run.{LosesAtRead, LosesAtWrite, ReadsMore, WritesAll}
 

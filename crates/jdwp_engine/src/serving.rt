@@ -7,8 +7,8 @@ ghost use Rattle.jdwp_target.specs.Targets as spec;
 ghost use Rattle.jdwp_target.specs.Targets.{Ran, opened_target};
 ghost use Rattle.jdwp_target.specs.ReadsBack.{StepReadsBack};
 ghost use Rattle.jdwp_target.specs.Turns.{StepsAt};
-ghost use Rattle.jdwp_pipe.specs.Endings.{unflushed_end};
-ghost use Rattle.jdwp_pipe.specs.Story.{FailsFlush, Story, flushed};
+ghost use Rattle.jdwp_end.specs.Endings.{unflushed_end};
+ghost use Rattle.jdwp_end.specs.Story.{FailsFlush, Story, flushed};
 ghost use Rattle.jdwp_engine.specs.Next.{IfEnds};
 ghost use Rattle.jdwp_engine.specs.Outcome.{EndsSo, MayEnd, MayStep};
 ghost use Rattle.jdwp_engine.specs.Run.{GoesOn, InOrder, LosesAtRead, LosesAtWrite, ReadsMore, WritesAll, cost};
@@ -17,9 +17,9 @@ ghost use Rattle.jdwp_engine.specs.Sessions.{LastRound, Round, Runs, Serves, unf
 ghost use Rattle.jdwp_engine.specs.Steps.{StepsIf};
 
 use crate::walk::ThreadWalk;
+use jdwp_end::{CHUNK, Ended, NoInput, Pipe, flush_all, read_and_feed, write_out};
 use jdwp_machine::Machine;
-use jdwp_pipe::{CHUNK, Ended, NoInput, Pipe, flush_all, read_and_feed, write_out};
-use jdwp_target::{Stepped, Target, TargetFault, Turn, closes_for_a_reason};
+use jdwp_target::{Stepped, Target, TargetFault, Turn};
 use jdwp_value::ObjectId;
 
 /// Runs the target on the pipe for one session, for at most so many rounds.
@@ -124,7 +124,7 @@ fn run_rounds<M: Machine + Drop, P: Pipe>(
 {
     let mut buffer = [0; CHUNK];
     for _done in 0..rounds {
-        if let Next::Ends(ended) = round(target, pipe, &mut buffer) {
+        if let AfterRound::Ends(ended) = round(target, pipe, &mut buffer) {
             return ended;
         }
     }
@@ -133,7 +133,7 @@ fn run_rounds<M: Machine + Drop, P: Pipe>(
 
 /// What an engine does after a round.
 #[derive(Clone, Copy)]
-enum Next {
+enum AfterRound {
     /// The session goes on.
     Goes,
     Ends(Ended),
@@ -145,24 +145,24 @@ fn round<M: Machine + Drop, P: Pipe>(
     target: &mut Target<M>,
     pipe: &mut P,
     buffer: &mut [u8; CHUNK],
-) -> Next
+) -> AfterRound
     requires is_open { is_open target.old.end ≡ true }
     requires idle { target.old.end.outgoing ≡ [] }
-    ensures goes { result ≡ Next.Goes → GoesOn target.old target.new (P.story pipe.old)
+    ensures goes { result ≡ AfterRound.Goes → GoesOn target.old target.new (P.story pipe.old)
         (P.story pipe.new) }
     ensures ends { IfEnds result (EndsSo M.meaning target.old target.new (P.story pipe.old)
         (P.story pipe.new)) }
-    ensures round { result ≡ Next.Goes → Round M.meaning target.old (P.story pipe.old) target.new
+    ensures round { result ≡ AfterRound.Goes → Round M.meaning target.old (P.story pipe.old) target.new
         (P.story pipe.new) }
     ensures last { IfEnds result (LastRound M.meaning target.old (P.story pipe.old) target.new
         (P.story pipe.new)) }
 {
-    closes_for_a_reason::<M>();
+    jdwp_target::laws::closes_for_a_reason::<M>();
     target.session();
     let turn = match target.turn() {
         Ok(turn) => turn,
-        Err(TargetFault::Frame(fault)) => return Next::Ends(Ended::Refused(fault.number())),
-        Err(TargetFault::NoMemory) => return Next::Ends(Ended::NoMemory),
+        Err(TargetFault::Frame(fault)) => return AfterRound::Ends(Ended::Refused(fault.number())),
+        Err(TargetFault::NoMemory) => return AfterRound::Ends(Ended::NoMemory),
     };
     match turn {
         Turn::Nothing => flush_and_go(target, pipe, buffer),
@@ -175,17 +175,17 @@ fn flush_and_go<M: Machine + Drop, P: Pipe>(
     target: &mut Target<M>,
     pipe: &mut P,
     buffer: &mut [u8; CHUNK],
-) -> Next
+) -> AfterRound
     requires is_open { is_open target.old.end ≡ true }
     requires idle { target.old.end.outgoing ≡ [] }
     requires asks { front_of target.old.end ≡ More }
     requires flows { is_paused target.old.end ≡ false }
     requires room { 0 < room_of target.old.end }
-    ensures goes { result ≡ Next.Goes → GoesOn target.old target.new (P.story pipe.old)
+    ensures goes { result ≡ AfterRound.Goes → GoesOn target.old target.new (P.story pipe.old)
         (P.story pipe.new) }
     ensures ends { IfEnds result (EndsSo M.meaning target.old target.new (P.story pipe.old)
         (P.story pipe.new)) }
-    ensures round { result ≡ Next.Goes → Round M.meaning target.old (P.story pipe.old) target.new
+    ensures round { result ≡ AfterRound.Goes → Round M.meaning target.old (P.story pipe.old) target.new
         (P.story pipe.new) }
     ensures last { IfEnds result (LastRound M.meaning target.old (P.story pipe.old) target.new
         (P.story pipe.new)) }
@@ -193,7 +193,7 @@ fn flush_and_go<M: Machine + Drop, P: Pipe>(
     target.session();
     if !flush_all(pipe) {
         target.lose();
-        return Next::Ends(Ended::LostByWrite);
+        return AfterRound::Ends(Ended::LostByWrite);
     }
     if target.deferred() > 0 {
         release_and_go(target, pipe)
@@ -203,27 +203,27 @@ fn flush_and_go<M: Machine + Drop, P: Pipe>(
 }
 
 /// Releases the newest deferred command. What waits to leave is written.
-fn release_and_go<M: Machine + Drop, P: Pipe>(target: &mut Target<M>, pipe: &mut P) -> Next
+fn release_and_go<M: Machine + Drop, P: Pipe>(target: &mut Target<M>, pipe: &mut P) -> AfterRound
     requires is_open { is_open target.old.end ≡ true }
     requires asks { front_of target.old.end ≡ More }
     requires flows { is_paused target.old.end ≡ false }
     requires waits { 0 < length target.old.deferred }
     requires left { (P.story pipe.old).unflushed ≡ [] }
-    ensures goes { result ≡ Next.Goes → GoesOn target.old target.new (P.story pipe.old)
+    ensures goes { result ≡ AfterRound.Goes → GoesOn target.old target.new (P.story pipe.old)
         (P.story pipe.new) }
     ensures ends { IfEnds result (EndsSo M.meaning target.old target.new (P.story pipe.old)
         (P.story pipe.new)) }
-    ensures round { result ≡ Next.Goes → (before : Story) → P.story pipe.old ≡ flushed before
+    ensures round { result ≡ AfterRound.Goes → (before : Story) → P.story pipe.old ≡ flushed before
         → Round M.meaning target.old before target.new (P.story pipe.new) }
     ensures last { IfEnds result (λ ended. (before : Story) → P.story pipe.old ≡ flushed before
         → LastRound M.meaning target.old before target.new (P.story pipe.new) ended) }
 {
-    closes_for_a_reason::<M>();
+    jdwp_target::laws::closes_for_a_reason::<M>();
     target.session();
     let newest = target.deferred() - 1;
     match target.release(newest) {
         Ok(_) => write_and_go(target, pipe),
-        Err(_) => Next::Ends(Ended::NoMemory),
+        Err(_) => AfterRound::Ends(Ended::NoMemory),
     }
 }
 
@@ -232,7 +232,7 @@ fn step_or_read<M: Machine + Drop, P: Pipe>(
     target: &mut Target<M>,
     pipe: &mut P,
     buffer: &mut [u8; CHUNK],
-) -> Next
+) -> AfterRound
     requires is_open { is_open target.old.end ≡ true }
     requires idle { target.old.end.outgoing ≡ [] }
     requires asks { front_of target.old.end ≡ More }
@@ -240,11 +240,11 @@ fn step_or_read<M: Machine + Drop, P: Pipe>(
     requires room { 0 < room_of target.old.end }
     requires none { target.old.deferred ≡ [] }
     requires left { (P.story pipe.old).unflushed ≡ [] }
-    ensures goes { result ≡ Next.Goes → GoesOn target.old target.new (P.story pipe.old)
+    ensures goes { result ≡ AfterRound.Goes → GoesOn target.old target.new (P.story pipe.old)
         (P.story pipe.new) }
     ensures ends { IfEnds result (EndsSo M.meaning target.old target.new (P.story pipe.old)
         (P.story pipe.new)) }
-    ensures round { result ≡ Next.Goes → (before : Story) → P.story pipe.old ≡ flushed before
+    ensures round { result ≡ AfterRound.Goes → (before : Story) → P.story pipe.old ≡ flushed before
         → Round M.meaning target.old before target.new (P.story pipe.new) }
     ensures last { IfEnds result (λ ended. (before : Story) → P.story pipe.old ≡ flushed before
         → LastRound M.meaning target.old before target.new (P.story pipe.new) ended) }
@@ -254,8 +254,8 @@ fn step_or_read<M: Machine + Drop, P: Pipe>(
         Ok(false) => read_and_go(target, pipe, buffer),
         Ok(true) => write_and_go(target, pipe),
         Err(_) => match write_and_go(target, pipe) {
-            Next::Goes => Next::Ends(Ended::NoMemory),
-            Next::Ends(ended) => Next::Ends(ended),
+            AfterRound::Goes => AfterRound::Ends(Ended::NoMemory),
+            AfterRound::Ends(ended) => AfterRound::Ends(ended),
         },
     }
 }
@@ -305,7 +305,7 @@ fn step_one<M: Machine + Drop>(
         (id_in walk.old.last) walk.old.place → IsAhead (M.meaning.live target.new.moment.machine)
         (id_in walk.new.last) walk.new.place) }
 {
-    closes_for_a_reason::<M>();
+    jdwp_target::laws::closes_for_a_reason::<M>();
     let stepped = match target.step(thread) {
         Ok(stepped) => stepped,
         Err(fault) => return Err(fault),
@@ -324,43 +324,43 @@ fn read_and_go<M: Machine + Drop, P: Pipe>(
     target: &mut Target<M>,
     pipe: &mut P,
     buffer: &mut [u8; CHUNK],
-) -> Next
+) -> AfterRound
     requires room { 0 < room_of target.old.end }
     requires left { (P.story pipe.old).unflushed ≡ [] }
-    ensures goes { result ≡ Next.Goes → ReadsMore target.old target.new (P.story pipe.old)
+    ensures goes { result ≡ AfterRound.Goes → ReadsMore target.old target.new (P.story pipe.old)
         (P.story pipe.new) }
     ensures ends { IfEnds result (λ ended. (ended ≡ Ended.LostByRead)
         × LosesAtRead target.old target.new (P.story pipe.old) (P.story pipe.new)) }
 {
     match read_and_feed(target, pipe, buffer) {
-        Ok(()) => Next::Goes,
+        Ok(()) => AfterRound::Goes,
         Err(NoInput) => {
             target.lose();
-            Next::Ends(Ended::LostByRead)
+            AfterRound::Ends(Ended::LostByRead)
         }
     }
 }
 
 /// Writes what waits, and ends where a write fails or the session has closed.
-fn write_and_go<M: Machine + Drop, P: Pipe>(target: &mut Target<M>, pipe: &mut P) -> Next
-    ensures goes { result ≡ Next.Goes → (is_open target.old.end ≡ true)
+fn write_and_go<M: Machine + Drop, P: Pipe>(target: &mut Target<M>, pipe: &mut P) -> AfterRound
+    ensures goes { result ≡ AfterRound.Goes → (is_open target.old.end ≡ true)
         × WritesAll target.old target.new (P.story pipe.old) (P.story pipe.new) }
-    ensures done { result ≡ Next.Ends Ended.Done → (is_open target.old.end ≡ false)
+    ensures done { result ≡ AfterRound.Ends Ended.Done → (is_open target.old.end ≡ false)
         × WritesAll target.old target.new (P.story pipe.old) (P.story pipe.new)
         × Ran M.meaning target.new }
     ensures ends { IfEnds result (λ ended. (ended ≡ Ended.Done) ⊎ (ended ≡ Ended.LostByWrite)) }
-    ensures fails { result ≡ Next.Ends Ended.LostByWrite
+    ensures fails { result ≡ AfterRound.Ends Ended.LostByWrite
         → LosesAtWrite M.meaning target.old target.new (P.story pipe.old) (P.story pipe.new) }
 {
     let written = write_out(target, pipe);
     target.session();
     if !written {
         target.lose();
-        return Next::Ends(Ended::LostByWrite);
+        return AfterRound::Ends(Ended::LostByWrite);
     }
     if target.is_open() {
-        Next::Goes
+        AfterRound::Goes
     } else {
-        Next::Ends(Ended::Done)
+        AfterRound::Ends(Ended::Done)
     }
 }

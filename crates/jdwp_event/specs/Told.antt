@@ -1,11 +1,20 @@
 -- What a composite tells whoever reads it (JDWP specification, "Protocol Details": the command Composite of the set Event).
 use Rattle.std.specs.Prelude.{ℕ, ◌==◌, Bool, false, List, [], ◌∷◌, Option, Some, None}
 use Rattle.std.specs.List.{list_any}
+use Rattle.jdwp_value.specs.declared.id.ObjectId.{ObjectId}
 use Rattle.jdwp_layout.specs.Meanings.{ScalarMeaning, Byte, Int, Object}
 use Rattle.jdwp_event.specs.declared.kind.EventKind.{EventKind}
 use Rattle.jdwp_event.specs.declared.kind.EventKind.TheVariants as kind
 use Rattle.jdwp_event.specs.EventKinds.{kind_byte}
 use Rattle.jdwp_event.specs.Composites.{CompositeMeaning}
+
+-- an id by its number
+abbrev pub object_id : ℕ → ObjectId
+object_id n = record { 0 = n }
+
+abbrev pub id_found : Option ℕ → Option ObjectId
+id_found None = None
+id_found (Some n) = Some (object_id n)
 
 -- the thread of an event: the object behind its request's id
 abbrev pub event_thread : List ScalarMeaning → Option ℕ

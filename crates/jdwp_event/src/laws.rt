@@ -1,4 +1,4 @@
-//! Laws of what events and composites are as bytes, as contracts of functions that do nothing.
+//! Laws: each function says what holds, in its contract, and does nothing; to call it is to cite it.
 ghost use Rattle.std.specs.Prelude.{◌≡◌, ℕ, ◌∷◌, [], List, ◌↔◌};
 ghost use Rattle.jdwp_wire.specs.Widths.{Widths};
 ghost use Rattle.jdwp_layout.specs.declared.item.Field.TheVariants as field;
@@ -14,7 +14,7 @@ pub fn composites_have_their_layout()
         ↔ EncodesData w (OneOf field.Byte ∷ ListOf Events ∷ []) (composite_data c) code }
 {}
 
-/// A composite is written as its data are. It does nothing.
+/// A composite is written as its data are.
 pub fn composites_have_their_bytes()
     ensures { (w : Widths) (c : CompositeMeaning) → composite_canonical w c
         ≡ data_canonical w (composite_data c) }

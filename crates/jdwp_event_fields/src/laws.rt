@@ -1,4 +1,4 @@
-//! Laws of events and event sets, as contracts of functions that do nothing.
+//! Laws: each function says what holds, in its contract, and does nothing; to call it is to cite it.
 ghost use Rattle.std.specs.Prelude.{ℕ, List};
 ghost use Rattle.jdwp_wire.specs.Widths.{Widths};
 ghost use Rattle.jdwp_event.specs.Composites.{CompositeMeaning};

@@ -3,10 +3,9 @@
 
 mod event;
 mod event_set;
-mod laws;
+pub mod laws;
 mod reading;
 mod scalars;
 
 pub use event::Event;
 pub use event_set::EventSet;
-pub use laws::{event_sets_are_composites, events_have_their_fields, read_composites_have_events};

@@ -2,9 +2,9 @@
 use Rattle.std.specs.Prelude.{◌≡◌, List, Option, map}
 use Rattle.std.specs.declared.io.Error.{Error}
 use Rattle.jdwp_wire.specs.Limits.{Limits}
-use Rattle.jdwp_pipe.specs.declared.ended.Ended.TheVariants as session
-use Rattle.jdwp_plan.specs.declared.plan_line.PlanLine.{PlanLine}
-use Rattle.jdwp_plan.specs.PlanLines.{said_by}
+use Rattle.jdwp_end.specs.declared.pipes.ended.Ended.TheVariants as session
+use Rattle.jdwp_attach.specs.declared.plans.plan_line.PlanLine.{PlanLine}
+use Rattle.jdwp_attach.specs.PlanLines.{said_by}
 use Rattle.jdwp_attach.specs.declared.attached.Attached.TheVariants.{Ended, RefusedLine}
 use Rattle.jdwp_pair.specs.declared.ended.PairEnded.{PairEnded}
 use Rattle.jdwp_pair.specs.declared.ended.PairEnded.TheVariants as pair

@@ -7,8 +7,8 @@ use Rattle.jdwp_script.specs.declared.detail.Detail.{Detail}
 use Rattle.jdwp_script.specs.declared.fault.ScriptFault.{ScriptFault}
 use Rattle.jdwp_script.specs.declared.fault.ScriptFault.TheVariants as script
 use Rattle.jdwp_script_machine.specs.Machines.{read_machine}
-use Rattle.jdwp_plan.specs.declared.plan_fault.PlanFault.{PlanFault}
-use Rattle.jdwp_plan.specs.Plans.{BeginsNoSession, IsFirstFault}
+use Rattle.jdwp_attach.specs.declared.plans.plan_fault.PlanFault.{PlanFault}
+use Rattle.jdwp_attach.specs.Plans.{BeginsNoSession, IsFirstFault}
 use Rattle.jdwp_program.specs.declared.fault.Fault.{Fault}
 use Rattle.jdwp_program.specs.declared.fault.Fault.TheVariants as fault
 use Rattle.jdwp_program.specs.declared.fault.FileCause.{FileCause}

@@ -1,30 +1,31 @@
 //! The commands on their files.
-ghost use Rattle.std.specs.Prelude.{◌≡◌, List, map, Err, Ok, IfOk, IfErr, OnErr, MatchResult, true};
+ghost use Rattle.std.specs.Prelude.{◌≡◌, ◌≢◌, List, map, Ok, IfOk, IfErr, OnErr, MatchResult};
 ghost use Rattle.std.specs.Io.KnownBytes.{Keeps};
 ghost use Rattle.std.specs.Str.{IsUtf8};
 ghost use Rattle.std.specs.Str.Lines.{lines};
 ghost use Rattle.jdwp_script_machine.specs.Machines.{read_machine};
 ghost use Rattle.jdwp_script_machine.specs.ScriptMeaning.{script_meaning};
 ghost use Rattle.jdwp_script_machine.specs.States.{State};
-ghost use Rattle.jdwp_pipe.specs.Streams.{story_of};
-ghost use Rattle.jdwp_serve.specs.Serving.{ServesNew};
-ghost use Rattle.jdwp_plan.specs.declared.plan_line.PlanLine.{PlanLine};
-ghost use Rattle.jdwp_plan.specs.PlanLines.{said_by};
-ghost use Rattle.jdwp_plan.specs.Plans.{SaysForAttach};
+ghost use Rattle.jdwp_end.specs.Streams.{story_of};
+ghost use Rattle.jdwp_engine.specs.Serving.{ServesNew};
+ghost use Rattle.jdwp_attach.specs.declared.plans.plan_line.PlanLine.{PlanLine};
+ghost use Rattle.jdwp_attach.specs.PlanLines.{said_by};
+ghost use Rattle.jdwp_attach.specs.Plans.{SaysForAttach};
 ghost use Rattle.jdwp_program.specs.Attaching.{AttachesNew, begun};
-ghost use Rattle.jdwp_program.specs.declared.fault.Fault.TheVariants as fault;
-ghost use Rattle.jdwp_program.specs.declared.fault.FileCause.TheVariants as cause;
-ghost use Rattle.jdwp_program.specs.Files.{begins_as_recording};
+ghost use Rattle.jdwp_program.specs.declared.captures.Told.TheVariants as capture;
+ghost use Rattle.jdwp_program.specs.Statuses.{status_of_fault};
 ghost use Rattle.jdwp_program.specs.Outputs.{LeavesCaptureTold};
 ghost use Rattle.jdwp_files.specs.Refusals.{IsFileNotText, RefusesAttachPlan, RefusesScript};
 
 use jdwp_attach::Attached;
-use jdwp_pipe::{Ended, Pipe, Streams};
+use jdwp_end::{Ended, Pipe, Streams};
+use jdwp_engine::serve_script;
 use jdwp_program::{
-    Attach, Fault, FileCause, Outcome, ServeScript, SessionFiles, Side, Told, Watched, attach_plan,
-    check_capture, is_recording, show_capture, text_of,
+    Attach, CaptureFile, Fault, FileCause, Outcome, ServeScript, SessionFiles, Side, TellFault,
+    Told, Watched, attach_plan, check_capture, is_recording, print_capture, report_connections,
+    session_of, show_capture, text_of,
 };
-use jdwp_serve::serve_script;
+use jdwp_recording::{Capture, RecordingFault};
 use std::alloc::Global;
 use std::fs::{Metadata, OpenFile};
 use std::io::{BufWriter, Read, Write};
@@ -35,64 +36,164 @@ use std::{fs, io};
 /// The files of a session that were opened, one to read from and one to write to.
 type FileStreams<F> = Streams<Watched<F>, Watched<BufWriter<F>>>;
 
-/// Shows the capture of a file.
+/// Shows the capture of a file, or that of a session in a recording of the network.
 ///
 /// # Errors
-/// `File` where it can't be read, is a recording of the network or is not UTF-8; `Output` where the output can't be written; `NoMemory`.
-pub fn show_file<'a, R: Files + AllocGlobal, O: Write>(
+/// `File` where it can't be read or is not UTF-8; `Recording` where it gives no capture, and, behind what was told, where it gives not all of
+/// one; `Output` where the output can't be written; `NoMemory`.
+pub fn show_file<'a, R: Files + AllocGlobal, O: Write, E: Write>(
     rt: &R,
+    words: &CaptureFile<'a>,
+    out: &mut O,
+    err: &mut E,
+) -> Result<Told, Fault<'a>>
+    ensures { LeavesCaptureTold result (O.contents out.old) (O.contents out.new) }
+{
+    let bytes = read(rt, words.file)?;
+    if is_recording(&bytes) {
+        let found = session_in(rt.alloc(), words, &bytes, err)?;
+        return show_recorded(rt.alloc(), words.file, &found, out);
+    }
+    let capture = text(words.file, &bytes)?;
+    show_text(rt.alloc(), capture, out)
+}
+
+/// Shows a capture.
+fn show_text<'a, O: Write>(alloc: Global, capture: &str, out: &mut O) -> Result<Told, Fault<'a>>
+    ensures { LeavesCaptureTold result (O.contents out.old) (O.contents out.new) }
+{
+    match show_capture(alloc, capture, out) {
+        Ok(told) => Ok(told),
+        Err(TellFault::Output(error)) => Err(Fault::Output(error)),
+        Err(TellFault::NoMemory) => Err(Fault::NoMemory),
+    }
+}
+
+/// Shows the capture that a recording in a file of this name gave.
+fn show_recorded<'a, O: Write>(
+    alloc: Global,
     file: &'a str,
+    found: &Capture,
     out: &mut O,
 ) -> Result<Told, Fault<'a>>
     ensures { LeavesCaptureTold result (O.contents out.old) (O.contents out.new) }
 {
-    let bytes = read(rt, file)?;
-    show_bytes(rt.alloc(), file, &bytes, out)
+    match show_capture(alloc, found.text.as_str(), out) {
+        Ok(told) => faulty_where(file, told, found.fault),
+        Err(TellFault::Output(error)) => Err(Fault::Output(error)),
+        Err(TellFault::NoMemory) => Err(Fault::NoMemory),
+    }
 }
 
-/// Shows the capture of these bytes of the file.
-fn show_bytes<'a, O: Write>(
-    alloc: Global,
-    file: &'a str,
-    bytes: &[u8],
-    out: &mut O,
-) -> Result<Told, Fault<'a>>
-    ensures leaves { LeavesCaptureTold result (O.contents out.old) (O.contents out.new) }
-    ensures recording { begins_as_recording bytes.now ≡ true
-        → result ≡ Err (fault.File file.entry cause.Recording) }
-{
-    let capture = capture(file, bytes)?;
-    Ok(show_capture(alloc, capture, out)?)
-}
-
-/// Judges the capture of a file.
+/// Judges the capture of a file, or that of a session in a recording of the network.
 ///
 /// # Errors
 /// As those of `show_file`.
-pub fn check_file<'a, R: Files + AllocGlobal, O: Write>(
+pub fn check_file<'a, R: Files + AllocGlobal, O: Write, E: Write>(
     rt: &R,
+    words: &CaptureFile<'a>,
+    out: &mut O,
+    err: &mut E,
+) -> Result<Told, Fault<'a>>
+    ensures { LeavesCaptureTold result (O.contents out.old) (O.contents out.new) }
+{
+    let bytes = read(rt, words.file)?;
+    if is_recording(&bytes) {
+        let found = session_in(rt.alloc(), words, &bytes, err)?;
+        return check_recorded(rt.alloc(), words.file, &found, out);
+    }
+    let capture = text(words.file, &bytes)?;
+    check_text(rt.alloc(), capture, out)
+}
+
+/// Judges a capture.
+fn check_text<'a, O: Write>(alloc: Global, capture: &str, out: &mut O) -> Result<Told, Fault<'a>>
+    ensures { LeavesCaptureTold result (O.contents out.old) (O.contents out.new) }
+{
+    match check_capture(alloc, capture, out) {
+        Ok(told) => Ok(told),
+        Err(TellFault::Output(error)) => Err(Fault::Output(error)),
+        Err(TellFault::NoMemory) => Err(Fault::NoMemory),
+    }
+}
+
+/// Judges the capture that a recording in a file of this name gave.
+fn check_recorded<'a, O: Write>(
+    alloc: Global,
     file: &'a str,
+    found: &Capture,
     out: &mut O,
 ) -> Result<Told, Fault<'a>>
     ensures { LeavesCaptureTold result (O.contents out.old) (O.contents out.new) }
 {
-    let bytes = read(rt, file)?;
-    check_bytes(rt.alloc(), file, &bytes, out)
+    match check_capture(alloc, found.text.as_str(), out) {
+        Ok(told) => faulty_where(file, told, found.fault),
+        Err(TellFault::Output(error)) => Err(Fault::Output(error)),
+        Err(TellFault::NoMemory) => Err(Fault::NoMemory),
+    }
 }
 
-/// Judges the capture of these bytes of the file.
-fn check_bytes<'a, O: Write>(
-    alloc: Global,
+/// Prints the capture of a session in a recording of the network.
+///
+/// # Errors
+/// As those of `show_file`, and `Recording` where the file is none.
+pub fn capture_file<'a, R: Files + AllocGlobal, O: Write, E: Write>(
+    rt: &R,
+    words: &CaptureFile<'a>,
+    out: &mut O,
+    err: &mut E,
+) -> Result<Told, Fault<'a>>
+    ensures { LeavesCaptureTold result (O.contents out.old) (O.contents out.new) }
+{
+    let bytes = read(rt, words.file)?;
+    let found = session_in(rt.alloc(), words, &bytes, err)?;
+    print_recorded(words.file, &found, out)
+}
+
+/// Prints the capture that a recording in a file of this name gave.
+fn print_recorded<'a, O: Write>(
     file: &'a str,
-    bytes: &[u8],
+    found: &Capture,
     out: &mut O,
 ) -> Result<Told, Fault<'a>>
-    ensures leaves { LeavesCaptureTold result (O.contents out.old) (O.contents out.new) }
-    ensures recording { begins_as_recording bytes.now ≡ true
-        → result ≡ Err (fault.File file.entry cause.Recording) }
+    ensures { LeavesCaptureTold result (O.contents out.old) (O.contents out.new) }
 {
-    let capture = capture(file, bytes)?;
-    Ok(check_capture(alloc, capture, out)?)
+    match print_capture(found.text.as_str(), out) {
+        Ok(told) => faulty_where(file, told, found.fault),
+        Err(TellFault::Output(error)) => Err(Fault::Output(error)),
+        Err(TellFault::NoMemory) => Err(Fault::NoMemory),
+    }
+}
+
+/// The capture of the session that the words ask for in a recording of these bytes. Where there are more, it is told how many.
+fn session_in<'a, E: Write>(
+    alloc: Global,
+    words: &CaptureFile<'a>,
+    bytes: &[u8],
+    err: &mut E,
+) -> Result<Capture, Fault<'a>> {
+    match session_of(alloc, words, bytes) {
+        Ok(found) => {
+            report_connections(words, found.connections, err);
+            Ok(found.capture)
+        }
+        Err(fault) => Err(Fault::of_recording(words.file, fault)),
+    }
+}
+
+/// What was told of a capture that a recording gave; behind it the recording's fault, where it has one and all was read.
+fn faulty_where<'a>(
+    file: &'a str,
+    told: Told,
+    fault: Option<RecordingFault>,
+) -> Result<Told, Fault<'a>>
+    ensures ok { IfOk result (λ same. same ≡ told) }
+    ensures err { IfErr result (λ f. (status_of_fault f ≡ 1) × (told ≢ capture.Unread)) }
+{
+    match (told, fault) {
+        (Told::Unread, _) | (_, None) => Ok(told),
+        (_, Some(fault)) => Err(Fault::Recording(file, fault)),
+    }
 }
 
 /// Serves the session of a file over the machine of a script. The output's file is made only once the others are read and open, and the
@@ -268,18 +369,6 @@ fn writer<'a, R: Files + AllocGlobal>(
         Ok(writer) => Ok(writer),
         Err(_) => Err(Fault::NoMemory),
     }
-}
-
-/// The bytes of the file of a capture as text.
-fn capture<'a, 'b>(file: &'a str, bytes: &'b [u8]) -> Result<&'b str, Fault<'a>>
-    ensures recording { begins_as_recording bytes.now ≡ true
-        → result ≡ Err (fault.File file.entry cause.Recording) }
-    ensures text { IfOk result (λ text. text.now ≡ bytes.now) }
-{
-    if is_recording(bytes) {
-        return Err(Fault::File(file, FileCause::Recording));
-    }
-    text(file, bytes)
 }
 
 /// The bytes of a file as text.

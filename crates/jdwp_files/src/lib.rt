@@ -1,9 +1,11 @@
-//! The commands of the program on files, over any runtime and two writers.
+//! The words of the program's command line, and its commands on files, over any runtime and two writers.
 #![tactic(auto)]
 
 mod files;
 mod memory;
 mod running;
 mod sessions;
+mod words;
 
 pub use running::run;
+pub use words::read;

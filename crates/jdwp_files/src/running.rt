@@ -1,14 +1,14 @@
 //! The program, over a runtime and two writers.
 ghost use Rattle.std.specs.Prelude.{◌≡◌, ◌≤◌, false};
-ghost use Rattle.jdwp_words.specs.Commands.{runs_plan};
-ghost use Rattle.jdwp_program.specs.Outputs.{Leaves, LeavesOutcome};
+ghost use Rattle.jdwp_files.specs.Commands.{runs_plan};
+ghost use Rattle.jdwp_program.specs.Outputs.{Leaves, LeavesCaptureTold, LeavesOutcome};
 
-use crate::files::{attach_files, check_file, serve_files, show_file};
+use crate::files::{attach_files, capture_file, check_file, serve_files, show_file};
 use crate::memory::keep_freed_memory;
 use crate::sessions::{attach_port, pair_files, serve_live_port, serve_port};
 use jdwp_program::{
-    Attach, Fault, Outcome, Pair, Peer, ServeScript, Words, report_fault, report_outcome,
-    tell_version,
+    Attach, Fault, Outcome, Pair, Peer, ServeScript, TellFault, Told, Words, report_fault,
+    report_outcome, tell_version,
 };
 use std::convert::AsStr;
 use std::io::Write;
@@ -30,7 +30,8 @@ where
     E: Write,
     ensures bound { result ≤ 4 }
     // Unless the command runs a plan, on `out` is nothing, or what is told of a capture: all of it, the status saying whether it has a
-    // fault, or a beginning; or the program's version, or the line of a port, or a beginning of it.
+    // fault, or a beginning; or the same of a recording, or its capture; or the program's version, or the line of a port, or a beginning
+    // of it.
     ensures leaves { runs_plan S.text words.now ≡ false
         → Leaves result (O.contents out.old) (O.contents out.new) }
 {
@@ -54,13 +55,25 @@ where
     ensures { runs_plan S.text words.now ≡ false → LeavesOutcome result (O.contents out.old)
         (O.contents out.new) }
 {
-    match jdwp_words::read(rt.alloc(), words)? {
+    match crate::words::read(rt.alloc(), words)? {
         Words::ServeScript(words) => serve(rt, &words, out, err),
         Words::Attach(words) => attach(rt, &words, out),
         Words::Pair(words) => pair(rt, &words, out),
-        Words::Show(file) => Ok(Outcome::Capture(show_file(rt, file, out)?)),
-        Words::Check(file) => Ok(Outcome::Capture(check_file(rt, file, out)?)),
-        Words::Version => Ok(Outcome::Version(tell_version(out)?)),
+        Words::Show(words) => Ok(Outcome::Capture(show_file(rt, &words, out, err)?)),
+        Words::Check(words) => Ok(Outcome::Capture(check_file(rt, &words, out, err)?)),
+        Words::Capture(words) => Ok(Outcome::Capture(capture_file(rt, &words, out, err)?)),
+        Words::Version => Ok(Outcome::Version(version(out)?)),
+    }
+}
+
+/// Tells the program's version.
+fn version<'a, O: Write>(out: &mut O) -> Result<Told, Fault<'a>>
+    ensures { LeavesCaptureTold result (O.contents out.old) (O.contents out.new) }
+{
+    match tell_version(out) {
+        Ok(told) => Ok(told),
+        Err(TellFault::Output(error)) => Err(Fault::Output(error)),
+        Err(TellFault::NoMemory) => Err(Fault::NoMemory),
     }
 }
 

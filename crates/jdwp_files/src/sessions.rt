@@ -8,8 +8,8 @@ ghost use Rattle.jdwp_script_machine.specs.ScriptMeaning.{script_meaning};
 ghost use Rattle.jdwp_script_machine.specs.States.{State};
 ghost use Rattle.jdwp_target.specs.Options.{LivesWithin};
 ghost use Rattle.jdwp_end.specs.Ends.{is_open};
-ghost use Rattle.jdwp_plan.specs.PlanLines.{said_by};
-ghost use Rattle.jdwp_plan.specs.Plans.{Says, SaysForAttach};
+ghost use Rattle.jdwp_attach.specs.PlanLines.{said_by};
+ghost use Rattle.jdwp_attach.specs.Plans.{Says, SaysForAttach};
 ghost use Rattle.jdwp_pair.specs.Connections.{is_disconnected};
 ghost use Rattle.jdwp_pair.specs.PlanRuns.{PairsNew};
 ghost use Rattle.jdwp_program.specs.Outputs.{LeavesOutcome};
@@ -17,15 +17,14 @@ ghost use Rattle.jdwp_files.specs.Pairs.{IsEndOfPair};
 ghost use Rattle.jdwp_files.specs.Refusals.{RefusesAttachPlan, RefusesPlan, RefusesScript};
 
 use crate::files::{read, text};
-use jdwp_attach::Attached;
+use jdwp_attach::{Attached, PlanLine, read_attach_plan, read_plan};
 use jdwp_debuggee::Settings;
 use jdwp_debugger::{Debugger, Order};
+use jdwp_end::{Ended, Pipe, Streams};
 use jdwp_link::Memory;
-use jdwp_live_port::serve_live_sessions;
+use jdwp_live::serve_live_sessions;
 use jdwp_machine::Machine;
 use jdwp_pair::{Connection, Loopback, PairEnded, pair_session};
-use jdwp_pipe::{Ended, Pipe, Streams};
-use jdwp_plan::{PlanLine, read_attach_plan, read_plan};
 use jdwp_port::{PortFault, PortListener, attach_stream, bind, connect, serve_sessions};
 use jdwp_program::{
     Attach, Awaited, Between, Fault, Lines, Outcome, Pair, ServeScript, Watched, tell_listening,

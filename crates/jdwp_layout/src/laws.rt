@@ -1,4 +1,4 @@
-//! The laws of reading and writing by a layout, as contracts of functions that do nothing.
+//! Laws: each function says what holds, in its contract, and does nothing; to call it is to cite it.
 ghost use Rattle.std.specs.Prelude.{◌≡◌, ℕ, List, Ok, Err, None};
 ghost use Rattle.jdwp_wire.specs.declared.data_fault.DataFault.{DataFault};
 ghost use Rattle.jdwp_wire.specs.Bytes.{IsBytes};

@@ -10,7 +10,7 @@ mod entry;
 pub mod event_kinds;
 mod fitting;
 mod item;
-mod laws;
+pub mod laws;
 pub mod modifier_kinds;
 pub mod numbers;
 mod reading;
@@ -24,10 +24,6 @@ pub use datum::{Datum, Scalar, copy_entry};
 pub use entry::{entry_size, pass_entries, pass_entry, read_entry, write_entry};
 pub use fitting::{data_size, refusal};
 pub use item::{Entry, Field, Item, Layout, fields_of_event, fields_of_modifier};
-pub use laws::{
-    answers_first_fault, encodes_one_list, reads_only_encoded, reads_what_is_encoded,
-    writes_what_is_encoded,
-};
 pub use reading::{read, read_field};
 pub use validation::validate;
 pub use writing::write;

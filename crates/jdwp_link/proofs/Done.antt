@@ -2,7 +2,7 @@
 use Rattle.std.proofs.Common.{◌≡◌, ℕ, ◌-◌, min, Bool, true, false, not, List, [], ◌++◌, length, take, drop, Ok, refl, sym, ◌∙◌, ap, subst, arith}
 use Rattle.std.specs.Prelude.{if◌then◌else◌}
 use Rattle.std.proofs.lemmas.List.{length-take-le}
-use Rattle.byte_queue.specs.Queue.{Queue}
+use Rattle.jdwp_link.specs.Queue.{Queue}
 use Rattle.jdwp_end.specs.Ends.{front_of, is_open, is_open_phase, room_of}
 use Rattle.jdwp_machine.specs.Meanings.{Meaning}
 use Rattle.jdwp_debugger.specs.Debuggers.{Debugger, has_tickets}

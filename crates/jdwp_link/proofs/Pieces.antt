@@ -1,7 +1,7 @@
 -- what one piece more makes of two ends
 use Rattle.std.proofs.Common.{◌≡◌, ◌≤◌, ℕ, ◌+◌, ◌-◌, length, take, drop, List, [], ◌++◌, refl, sym, ◌∙◌, ap, subst, arith}
 use Rattle.std.proofs.lemmas.List.{append_assoc, append-nil, length-drop, length-take-le, take_all, take_at}
-use Rattle.byte_queue.specs.Queue.{Queue}
+use Rattle.jdwp_link.specs.Queue.{Queue}
 use Rattle.jdwp_end.specs.Ends as ends
 use Rattle.jdwp_end.specs.Ends.{End, room_of}
 use Rattle.jdwp_debugger.specs.Debuggers.{Debugger}

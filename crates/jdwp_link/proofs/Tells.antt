@@ -1,7 +1,7 @@
 -- events of which something may be told, as the code does them
 use Rattle.std.proofs.Common.{◌≡◌, ◌≤◌, ◌<◌, ◌+◌, ℕ, Bool, true, false, ◌||◌, not, Option, Some, None, is_some, List, [], ◌∷◌, ◌++◌, length, map, Ok, Bor, refl, sym, ◌∙◌, ap, subst, arith}
 use Rattle.std.proofs.lemmas.List.{append-nil, append_assoc, length-append, map-append}
-use Rattle.byte_queue.specs.Queue.{Queue}
+use Rattle.jdwp_link.specs.Queue.{Queue}
 use Rattle.jdwp_wire.specs.Streams.{Fault, More, NextMessage, Whole}
 use Rattle.jdwp_end.specs.Ends.{front_of, is_open, is_open_phase, most_outgoing}
 use Rattle.jdwp_event.specs.Composites.{CompositeMeaning}

@@ -9,3 +9,4 @@ pub mod Insides
 pub mod EventParts
 pub mod Moving
 pub mod Outcomes
+pub mod Queue

@@ -11,8 +11,9 @@ ghost use Rattle.jdwp_link.specs.EventParts.{Stops, Tells};
 ghost use Rattle.jdwp_link.specs.Insides.{DebuggerKeeps, TargetKeeps};
 ghost use Rattle.jdwp_link.specs.Told.{event_meaning, step_did, turn_did};
 
+use crate::byte_queue::ByteQueue;
 use crate::events::{LinkEvent, Outcome};
-use crate::laws::laws;
+use crate::laws;
 use crate::link::Link;
 use crate::moving::{
     lose_and_keep, pieces_to_debugger, pieces_to_target, queue_to_debugger, queue_to_target,
@@ -22,7 +23,6 @@ use crate::telling::{
     tell_read,
 };
 use crate::way::Way;
-use byte_queue::ByteQueue;
 use jdwp_debugger::{Command, Debugger, DebuggerFault};
 use jdwp_machine::Machine;
 use jdwp_target::{Stepped, Target, TargetFault, Turn};
@@ -70,7 +70,7 @@ impl<M: Machine + Drop> Link<M> {
     pub(crate) fn attach(&mut self)
         ensures { Goes M.meaning events.Attach self.old self.new [] }
     {
-        laws::<M>();
+        laws::of_sessions::<M>();
         let begun = begin_session(&mut self.target, &mut self.debugger);
         clear_where(begun, &mut self.to_target);
         clear_where(begun, &mut self.to_debugger);
@@ -92,7 +92,7 @@ impl<M: Machine + Drop> Link<M> {
         ensures err { OnErr result (Stops M.meaning (events.Ask command.now) self.old self.new
             outcomes.old.items outcomes.new.items) }
     {
-        laws::<M>();
+        laws::of_sessions::<M>();
         keeps(&self.target, &self.debugger);
         outcomes.reserve(1)?;
         let copy = command.copied(self.alloc)?;
@@ -112,7 +112,7 @@ impl<M: Machine + Drop> Link<M> {
             (events.ToTarget most) self.old (W.story way.old) }
         ensures failed { W.has_failed way.old ≡ true → way.new ≡ way.old }
     {
-        laws::<M>();
+        laws::of_sessions::<M>();
         let kept = queue_to_target(&mut self.to_target, &mut self.target, most);
         let left = self
             .debugger
@@ -133,7 +133,7 @@ impl<M: Machine + Drop> Link<M> {
             (events.ToDebugger most) self.old (W.story way.old) }
         ensures failed { W.has_failed way.old ≡ true → way.new ≡ way.old }
     {
-        laws::<M>();
+        laws::of_sessions::<M>();
         let kept = queue_to_debugger(&mut self.to_debugger, &mut self.debugger, most);
         let left = self
             .target
@@ -163,7 +163,7 @@ impl<M: Machine + Drop> Link<M> {
         ensures err { OnErr result ((self.new ≡ self.old)
             × MayStop M.meaning self.old (events.Step thread.0)) }
     {
-        laws::<M>();
+        laws::of_sessions::<M>();
         keeps(&self.target, &self.debugger);
         match self.target.step(thread) {
             Ok(stepped) => {
@@ -185,7 +185,7 @@ impl<M: Machine + Drop> Link<M> {
         ensures err { OnErr result ((self.new ≡ self.old)
             × MayStop M.meaning self.old events.TargetTurn) }
     {
-        laws::<M>();
+        laws::of_sessions::<M>();
         keeps(&self.target, &self.debugger);
         match self.target.turn() {
             Ok(turn) => {
@@ -216,7 +216,7 @@ impl<M: Machine + Drop> Link<M> {
         ensures err { OnErr result ((self.new ≡ self.old)
             × MayStop M.meaning self.old (events.Release place)) }
     {
-        laws::<M>();
+        laws::of_sessions::<M>();
         keeps(&self.target, &self.debugger);
         match self.target.release(place) {
             Ok(released) => {
@@ -239,7 +239,7 @@ impl<M: Machine + Drop> Link<M> {
         ensures err { OnErr result (Stops M.meaning events.DebuggerLoses self.old self.new
             outcomes.old.items outcomes.new.items) }
     {
-        laws::<M>();
+        laws::of_sessions::<M>();
         keeps(&self.target, &self.debugger);
         if have_tickets(&self.debugger) {
             outcomes.reserve(PENDING_MOST)?;
@@ -273,7 +273,7 @@ impl<M: Machine + Drop> Link<M> {
         requires { is_front (front_of self.old.debugger.end) ≡ false }
         ensures { Goes M.meaning events.DebuggerTurn self.old self.new [] }
     {
-        laws::<M>();
+        laws::of_sessions::<M>();
         keeps(&self.target, &self.debugger);
         read_nothing(&mut self.debugger, self.alloc);
         self.did = false;
@@ -291,7 +291,7 @@ impl<M: Machine + Drop> Link<M> {
         ensures err { OnErr result (Stops M.meaning events.DebuggerTurn self.old self.new
             outcomes.old.items outcomes.new.items) }
     {
-        laws::<M>();
+        laws::of_sessions::<M>();
         keeps(&self.target, &self.debugger);
         match self.debugger.turn(self.alloc) {
             Ok(read) => {

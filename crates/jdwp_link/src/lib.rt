@@ -1,6 +1,7 @@
 //! A target and a debugger in one process, and the bytes between them: what a debugger shows as suspended is suspended.
 #![tactic(auto)]
 
+mod byte_queue;
 mod delivery;
 mod events;
 mod happening;
@@ -11,6 +12,7 @@ mod outcomes;
 mod telling;
 mod way;
 
+pub use byte_queue::ByteQueue;
 pub use delivery::deliver;
 pub use events::{LinkEvent, Outcome, Stopped};
 pub use link::Link;

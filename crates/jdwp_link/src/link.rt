@@ -4,7 +4,6 @@ ghost use Rattle.jdwp_debuggee.specs.State as state;
 ghost use Rattle.jdwp_debugger.specs.Debuggers.{new_debugger};
 ghost use Rattle.jdwp_end.specs.Ends.{most_outgoing};
 ghost use Rattle.jdwp_model.specs.Events.{Attach};
-ghost use Rattle.jdwp_model.specs.Headline.{MayBegin};
 ghost use Rattle.jdwp_model.specs.World.{World, opening};
 ghost use Rattle.jdwp_target.specs.Options.{Lives, LivesWithin, settings_at};
 ghost use Rattle.jdwp_target.specs.Targets.{new_target};
@@ -16,11 +15,11 @@ ghost use Rattle.jdwp_link.specs.Outcomes.{MeetsNoFault};
 ghost use Rattle.jdwp_link.specs.Stands.{IsLink, StandsFor};
 ghost use Rattle.jdwp_link.specs.Told.{event_meanings};
 
+use crate::byte_queue::ByteQueue;
 use crate::events::{LinkEvent, Outcome, Stopped};
 use crate::happening::keeps;
-use crate::laws::laws;
+use crate::laws;
 use crate::way::{Memory, Way};
-use byte_queue::ByteQueue;
 use jdwp_debuggee::Settings;
 use jdwp_debugger::Debugger;
 use jdwp_machine::Machine;
@@ -106,7 +105,7 @@ impl<M: Machine + Drop> Link<M> {
             })) }
         ensures stands { IfOk result (λ l. StandsFor M.meaning l (opening M.meaning machine)) }
     {
-        begins(&machine, &settings);
+        laws::may_begin(&machine, &settings);
         let kept = queues(alloc, settings.limits())?;
         let ends = ends(alloc, machine, settings)?;
         Ok(Link {
@@ -198,7 +197,7 @@ impl<M: Machine + Drop> Link<M> {
             → StaysTrue M.meaning self.now x }
         ensures faultless { MeetsNoFault M.meaning self.now }
     {
-        laws::<M>();
+        laws::of_sessions::<M>();
         keeps(&self.target, &self.debugger);
     }
 
@@ -260,13 +259,4 @@ fn ends<M: Machine + Drop>(
     let debugger = Debugger::with_limits(alloc, 1, settings.limits())?;
     let target = Target::with_settings(alloc, machine, settings)?;
     Ok((target, debugger))
-}
-
-/// A machine in which a thread lives may begin a session with these settings. It does nothing.
-fn begins<M: Machine>(machine: &M, settings: &Settings)
-    requires { LivesWithin M.meaning settings.now.limits machine.now }
-    ensures { MayBegin M.meaning settings.now machine.now }
-{
-    let _live = machine.live();
-    let _limit = settings.count_limit();
 }

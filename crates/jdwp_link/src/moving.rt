@@ -5,9 +5,9 @@ ghost use Rattle.jdwp_end.specs.Ends.{room_of};
 ghost use Rattle.jdwp_target.specs.Targets as targets;
 ghost use Rattle.jdwp_link.specs.Ways.{with_carried};
 
+use crate::byte_queue::ByteQueue;
 use crate::delivery::deliver;
 use crate::way::{Side, Way};
-use byte_queue::ByteQueue;
 use jdwp_debugger::Debugger;
 use jdwp_machine::Machine;
 use jdwp_target::Target;

@@ -2,7 +2,7 @@
 ghost use Rattle.jdwp_model.specs.Given.{GivesOnce};
 ghost use Rattle.jdwp_link.specs.Outcomes.{SettlesEachOnce, TellsAsGiven};
 
-use crate::laws::laws;
+use crate::laws;
 use jdwp_machine::Machine;
 
 /// Each ticket is answered or lost, once: those that a run answers or loses, and those that wait behind it, are those that waited before it and
@@ -12,7 +12,7 @@ use jdwp_machine::Machine;
 pub fn settles_each_ticket_once<M: Machine>()
     ensures { SettlesEachOnce M.meaning }
 {
-    laws::<M>();
+    laws::of_sessions::<M>();
     jdwp_model::settles_each_command_once::<M>();
 }
 

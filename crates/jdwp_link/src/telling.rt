@@ -9,9 +9,9 @@ ghost use Rattle.jdwp_debugger.specs.declared.turning.Read.TheVariants as read;
 ghost use Rattle.jdwp_link.specs.EventParts.{AsksSo, is_left, lost_of, lost_where, outcomes_of, seen_of, settled_bytes, settled_debugger, told_did};
 ghost use Rattle.jdwp_link.specs.Told.{told_outcomes};
 
+use crate::byte_queue::ByteQueue;
 use crate::events::Outcome;
 use crate::moving::keep_debugger;
-use byte_queue::ByteQueue;
 use jdwp_debugger::{Command, Debugger, Read, Refused, Ticket};
 use jdwp_event::Composite;
 use jdwp_wire::NoMemory;

@@ -17,9 +17,9 @@ use Rattle.jdwp_target.specs.Standings.{handled}
 use Rattle.jdwp_target.specs.Deeds.{acts_in}
 use Rattle.jdwp_target.specs.Targets.{Target, Ran, lost_target, with_taken}
 use Rattle.jdwp_target.specs.Turns.{TurnsAt}
-use Rattle.jdwp_pipe.specs.declared.ended.Ended.{Ended}
-use Rattle.jdwp_pipe.specs.declared.ended.Ended.TheVariants.{Done, LostByRead, LostByWrite}
-use Rattle.jdwp_pipe.specs.Story.{FailsRead, FailsWrite, Story, flushed, with_written}
+use Rattle.jdwp_end.specs.declared.pipes.ended.Ended.{Ended}
+use Rattle.jdwp_end.specs.declared.pipes.ended.Ended.TheVariants.{Done, LostByRead, LostByWrite}
+use Rattle.jdwp_end.specs.Story.{FailsRead, FailsWrite, Story, flushed, with_written}
 use Rattle.jdwp_engine.specs.Outcome.{EndsSo, FrontIs, MayEnd}
 use Rattle.jdwp_engine.specs.Run.{InOrder, IsGoing, LosesAtRead, LosesAtWrite, WritesAll}
 use Rattle.jdwp_engine.specs.Steps.{Advances, StepsIf, StepsOn}

@@ -13,7 +13,7 @@ use Rattle.jdwp_target.specs.Targets.{Target, opened_target}
 use Rattle.jdwp_target.specs.Turns.{StepsWhere, is_frozen}
 use Rattle.jdwp_engine.specs.Rounds.{StepsEach, Over, Wants}
 use Rattle.jdwp_engine.specs.Rounds as rounds
-use Rattle.jdwp_live_pipe.specs.declared.pipe.Patience.TheVariants.{Step}
+use Rattle.jdwp_live.specs.declared.pipes.pipe.Patience.TheVariants.{Step}
 use Rattle.jdwp_live.specs.LiveRounds.{patience_at}
 
 -- ---- an open session is established exactly where a message was handled

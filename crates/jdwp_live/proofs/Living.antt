@@ -11,23 +11,23 @@ use Rattle.jdwp_target.specs.Closings.{ClosesForReason}
 use Rattle.jdwp_target.specs.Deeds.{DefersFew}
 use Rattle.jdwp_target.specs.Targets.{Target, Ran, full_standing, with_fed, with_release}
 use Rattle.jdwp_target.specs.Turns.{TurnsAt}
-use Rattle.jdwp_pipe.specs.declared.ended.Ended.{Ended}
-use Rattle.jdwp_pipe.specs.declared.ended.Ended.TheVariants as ended
-use Rattle.jdwp_pipe.specs.declared.ended.Ended.TheVariants.{Done, LostByRead, LostByWrite}
-use Rattle.jdwp_pipe.specs.Story.{Story}
-use Rattle.jdwp_pipe.specs.Story as story
+use Rattle.jdwp_end.specs.declared.pipes.ended.Ended.{Ended}
+use Rattle.jdwp_end.specs.declared.pipes.ended.Ended.TheVariants as ended
+use Rattle.jdwp_end.specs.declared.pipes.ended.Ended.TheVariants.{Done, LostByRead, LostByWrite}
+use Rattle.jdwp_end.specs.Story.{Story}
+use Rattle.jdwp_end.specs.Story as story
 use Rattle.jdwp_engine.specs.Outcome.{EndsSo, MayStep}
 use Rattle.jdwp_engine.specs.Run.{GoesOn, IsGoing}
 use Rattle.jdwp_engine.specs.Run as run
 use Rattle.jdwp_engine.specs.Steps.{StepsIf, StepsOn}
 use Rattle.jdwp_engine.proofs.Advancing.{release-advances}
 use Rattle.jdwp_engine.proofs.Runs.{memory-goes, message-goes, read-goes, release-goes, steps-goes}
-use Rattle.jdwp_live_pipe.specs.declared.pipe.Patience.{Patience}
-use Rattle.jdwp_live_pipe.specs.declared.pipe.Patience.TheVariants.{Forever}
-use Rattle.jdwp_live_pipe.specs.LiveMoving.{ReadsOn}
-use Rattle.jdwp_live_pipe.specs.LiveStory.{LiveStory}
-use Rattle.jdwp_live.specs.declared.serving.Next.{Next}
-use Rattle.jdwp_live.specs.declared.serving.Next.TheVariants.{Goes, Ends}
+use Rattle.jdwp_live.specs.declared.pipes.pipe.Patience.{Patience}
+use Rattle.jdwp_live.specs.declared.pipes.pipe.Patience.TheVariants.{Forever}
+use Rattle.jdwp_live.specs.LiveMoving.{ReadsOn}
+use Rattle.jdwp_live.specs.LiveStory.{LiveStory}
+use Rattle.jdwp_live.specs.declared.serving.AfterLiveRound.{AfterLiveRound}
+use Rattle.jdwp_live.specs.declared.serving.AfterLiveRound.TheVariants.{Goes, Ends}
 use Rattle.jdwp_live.specs.LiveNext.{IfEnds}
 use Rattle.jdwp_live.proofs.Ending.{message-of, starved-ends, steps-of, unread-ends, written-ends}
 use Rattle.jdwp_live.specs.LiveRounds.{LosesAtRead, LosesAtWrite, ReadsSome, WritesAll}
@@ -50,10 +50,10 @@ loses m mid new now after h = (h.0.through, h.1, h.0.rooms)
 abbrev pub Which : Ended → Type 0
 Which e = (e ≡ Done) ⊎ (e ≡ LostByWrite)
 
-abbrev pub IfDone : {S : Type 0} → Meaning S → Next → Target S → Target S → LiveStory → LiveStory → Type 0
+abbrev pub IfDone : {S : Type 0} → Meaning S → AfterLiveRound → Target S → Target S → LiveStory → LiveStory → Type 0
 IfDone m next mid new now after = next ≡ Ends Done → (is_open mid.end ≡ false) × WritesAll mid new now after × Ran m new
 
-abbrev pub IfLoses : {S : Type 0} → Meaning S → Next → Target S → Target S → LiveStory → LiveStory → Type 0
+abbrev pub IfLoses : {S : Type 0} → Meaning S → AfterLiveRound → Target S → Target S → LiveStory → LiveStory → Type 0
 IfLoses m next mid new now after = next ≡ Ends LostByWrite → LosesAtWrite m mid new now after
 
 done-so : {S : Type 0} (m : Meaning S) (e : Ended) (mid new : Target S) (now after : LiveStory) → IfDone m (Ends e) mid new now after
@@ -73,7 +73,7 @@ pub message-on : {S : Type 0} (m : Meaning S) (s t : LiveStory) (old new newest 
 message-on m s t old new newest turn reason opened fits ran turned some h =
     message-goes m s.through t.through old new newest turn reason opened fits ran turned some (written new newest s t h)
 
-pub message-over : {S : Type 0} (m : Meaning S) (s t : LiveStory) (old new newest : Target S) (turn : Turn) (next : Next) → ClosesForReason m → is_open old.end ≡ true → IsBytes old.end.incoming → Ran m old → TurnsAt m (front_of old.end) old (Ok turn) new
+pub message-over : {S : Type 0} (m : Meaning S) (s t : LiveStory) (old new newest : Target S) (turn : Turn) (next : AfterLiveRound) → ClosesForReason m → is_open old.end ≡ true → IsBytes old.end.incoming → Ran m old → TurnsAt m (front_of old.end) old (Ok turn) new
     → (turn ≡ Nothing → ⊥) → IfEnds next Which → IfDone m next new newest s t → IfLoses m next new newest s t → IfEnds next (EndsSo m old newest s.through t.through)
 message-over m s t old new newest turn Goes reason opened fits ran turned some which done fails = tt
 message-over m s t old new newest turn (Ends e) reason opened fits ran turned some which done fails =
@@ -85,7 +85,7 @@ pub release-on : {S : Type 0} (m : Meaning S) (s t : LiveStory) (old new newest 
     → HasWritten new newest s t → GoesOn old newest s.through t.through
 release-on m s t old new newest place reason opened few is h = release-goes m s.through t.through old new newest place reason opened few is (written new newest s t h)
 
-pub release-over : {S : Type 0} (m : Meaning S) (s t : LiveStory) (old new newest : Target S) (place : ℕ) (next : Next) → ClosesForReason m → is_open old.end ≡ true → DefersFew (full_standing old) → new ≡ with_release m place old
+pub release-over : {S : Type 0} (m : Meaning S) (s t : LiveStory) (old new newest : Target S) (place : ℕ) (next : AfterLiveRound) → ClosesForReason m → is_open old.end ≡ true → DefersFew (full_standing old) → new ≡ with_release m place old
     → IfEnds next Which → IfDone m next new newest s t → IfLoses m next new newest s t → IfEnds next (EndsSo m old newest s.through t.through)
 release-over m s t old new newest place Goes reason opened few is which done fails = tt
 release-over m s t old new newest place (Ends e) reason opened few is which done fails =
@@ -96,7 +96,7 @@ release-over m s t old new newest place (Ends e) reason opened few is which done
 pub steps-go : {S : Type 0} (s t : LiveStory) (old new newest : Target S) → StepsOn old new → HasWritten new newest s t → GoesOn old newest s.through t.through
 steps-go s t old new newest p h = steps-goes s.through t.through old new newest p (written new newest s t h)
 
-pub steps-over : {S : Type 0} (m : Meaning S) (s t : LiveStory) (old new newest : Target S) (next : Next) → StepsOn old new
+pub steps-over : {S : Type 0} (m : Meaning S) (s t : LiveStory) (old new newest : Target S) (next : AfterLiveRound) → StepsOn old new
     → IfEnds next Which → IfDone m next new newest s t → IfLoses m next new newest s t → IfEnds next (EndsSo m old newest s.through t.through)
 steps-over m s t old new newest Goes p which done fails = tt
 steps-over m s t old new newest (Ends e) p which done fails =
@@ -117,7 +117,7 @@ memory-over m s t old mid newest made e p opened which done fails =
 pub read-on : {S : Type 0} (patience : Patience) (s t : LiveStory) (old mid newest : Target S) → mid ≡ old → ReadsSome patience mid newest s t → GoesOn old newest s.through t.through
 read-on patience s t old mid newest same h = read-goes s.through t.through old mid newest same (h.0, h.2, ap (λ (x : LiveStory). x.through) h.3)
 
-pub read-over : {S : Type 0} (m : Meaning S) (patience : Patience) (s t : LiveStory) (old mid newest : Target S) (next : Next) → Ran m old → is_open old.end ≡ true → is_paused old.end ≡ false → front_of old.end ≡ More → old.deferred ≡ [] → mid ≡ old
+pub read-over : {S : Type 0} (m : Meaning S) (patience : Patience) (s t : LiveStory) (old mid newest : Target S) (next : AfterLiveRound) → Ran m old → is_open old.end ≡ true → is_paused old.end ≡ false → front_of old.end ≡ More → old.deferred ≡ [] → mid ≡ old
     → IfEnds next (λ e. (e ≡ LostByRead) × LosesAtRead patience mid newest s t) → IfEnds next (EndsSo m old newest s.through t.through)
 read-over m patience s t old mid newest Goes ran opened flows more none same which = tt
 read-over m patience s t old mid newest (Ends e) ran opened flows more none same (is, (lost, fails)) =
@@ -150,7 +150,7 @@ nothing-on {S = S} s mid t old new e goes =
     let on = subst (λ (x : Story). GoesOn old new x t) e goes in
     (omega (arith, on.0), λ base start k. on.1 base start (nothing-going base start s old k))
 
-pub nothing-over : {S : Type 0} (m : Meaning S) (s mid t : Story) (old new : Target S) (next : Next) → mid ≡ story.with_read [] s → IfEnds next (EndsSo m old new mid t) → IfEnds next (EndsSo m old new s t)
+pub nothing-over : {S : Type 0} (m : Meaning S) (s mid t : Story) (old new : Target S) (next : AfterLiveRound) → mid ≡ story.with_read [] s → IfEnds next (EndsSo m old new mid t) → IfEnds next (EndsSo m old new s t)
 nothing-over m s mid t old new Goes e so = tt
 nothing-over {S = S} m s mid t old new (Ends how) e so =
     let on = subst (λ (x : Story). EndsSo m old new x t how) e so in
@@ -173,7 +173,7 @@ flushed-going base start s target k = record {
   prompt = k.prompt;
 }
 
-pub flushed-over : {S : Type 0} (m : Meaning S) (s mid t : Story) (old new : Target S) (next : Next) → mid ≡ story.flushed s → IfEnds next (EndsSo m old new mid t) → IfEnds next (EndsSo m old new s t)
+pub flushed-over : {S : Type 0} (m : Meaning S) (s mid t : Story) (old new : Target S) (next : AfterLiveRound) → mid ≡ story.flushed s → IfEnds next (EndsSo m old new mid t) → IfEnds next (EndsSo m old new s t)
 flushed-over m s mid t old new Goes e so = tt
 flushed-over {S = S} m s mid t old new (Ends how) e so =
     let on = subst (λ (x : Story). EndsSo m old new x t how) e so in

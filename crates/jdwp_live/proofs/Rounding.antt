@@ -7,14 +7,14 @@ use Rattle.jdwp_target.specs.declared.target.TargetFault.{TargetFault}
 use Rattle.jdwp_target.specs.declared.target.Turn.{Turn}
 use Rattle.jdwp_target.specs.ReadsBack.{ReleaseReadsBack}
 use Rattle.jdwp_target.specs.Targets.{Target}
-use Rattle.jdwp_pipe.specs.declared.ended.Ended.{Ended}
-use Rattle.jdwp_pipe.specs.declared.ended.Ended.TheVariants.{LostByRead}
+use Rattle.jdwp_end.specs.declared.pipes.ended.Ended.{Ended}
+use Rattle.jdwp_end.specs.declared.pipes.ended.Ended.TheVariants.{LostByRead}
 use Rattle.jdwp_engine.specs.Rounds.{StepsEach}
 use Rattle.jdwp_engine.specs.Sessions.{ReleasesNewest}
-use Rattle.jdwp_live_pipe.specs.declared.pipe.Patience.TheVariants.{Step, Forever}
-use Rattle.jdwp_live_pipe.specs.LiveStory.{LiveStory, flushed, with_read}
-use Rattle.jdwp_live.specs.declared.serving.Next.{Next}
-use Rattle.jdwp_live.specs.declared.serving.Next.TheVariants.{Goes, Ends}
+use Rattle.jdwp_live.specs.declared.pipes.pipe.Patience.TheVariants.{Step, Forever}
+use Rattle.jdwp_live.specs.LiveStory.{LiveStory, flushed, with_read}
+use Rattle.jdwp_live.specs.declared.serving.AfterLiveRound.{AfterLiveRound}
+use Rattle.jdwp_live.specs.declared.serving.AfterLiveRound.TheVariants.{Goes, Ends}
 use Rattle.jdwp_live.specs.LiveNext.{IfEnds}
 use Rattle.jdwp_live.specs.LiveRounds.{LastRound, LosesAtRead, Moves, ReadsSome, Releases, Rests, Round, Steps, CantRead, CantWait, CantWrite, Closes, Reads, patience_at, patience_of}
 use Rattle.jdwp_live.proofs.Living.{IfDone, IfLoses, Which}
@@ -30,7 +30,7 @@ pub released-newest : {S : Type 0} (m : Meaning S) (old mid : Target S) (before 
 released-newest m old mid before now turn asks released reads e = subst (λ (x : LiveStory). Moves m old before (Ok true) mid x) (sym e) (Releases turn mid asks released reads)
 
 -- what was put was written, and the session closed; or a write failed
-pub writes-last : {S : Type 0} (m : Meaning S) (old mid new : Target S) (before now after : LiveStory) (next : Next) → Moves m old before (Ok true) mid now
+pub writes-last : {S : Type 0} (m : Meaning S) (old mid new : Target S) (before now after : LiveStory) (next : AfterLiveRound) → Moves m old before (Ok true) mid now
     → IfEnds next Which → IfDone m next mid new now after → IfLoses m next mid new now after → IfEnds next (LastRound m old before new after)
 writes-last m old mid new before now after Goes moves which done fails = tt
 writes-last m old mid new before now after (Ends ended) moves which done fails =
@@ -40,7 +40,7 @@ writes-last m old mid new before now after (Ends ended) moves which done fails =
     ]
 
 -- the same behind a release
-pub release-last : {S : Type 0} (m : Meaning S) (old mid new : Target S) (now after : LiveStory) (next : Next) (turn : Turn) → front_of old.end ≡ More → ReleasesNewest m old (Ok turn) mid
+pub release-last : {S : Type 0} (m : Meaning S) (old mid new : Target S) (now after : LiveStory) (next : AfterLiveRound) (turn : Turn) → front_of old.end ≡ More → ReleasesNewest m old (Ok turn) mid
     → ReleaseReadsBack m (length old.deferred - 1) old
     → IfEnds next Which → IfDone m next mid new now after → IfLoses m next mid new now after
     → IfEnds next (λ ended. (before : LiveStory) → now ≡ flushed before → LastRound m old before new after ended)
@@ -49,7 +49,7 @@ release-last m old mid new now after (Ends ended) turn asks released reads which
     λ before e. writes-last m old mid new before now after (Ends ended) (released-newest m old mid before now turn asks released reads e) which done fails
 
 -- the same behind steps
-pub steps-last : {S : Type 0} (m : Meaning S) (old mid new : Target S) (now after : LiveStory) (next : Next) → Rests old → is_established old.end ≡ true → StepsEach m None old (Ok true) mid
+pub steps-last : {S : Type 0} (m : Meaning S) (old mid new : Target S) (now after : LiveStory) (next : AfterLiveRound) → Rests old → is_established old.end ≡ true → StepsEach m None old (Ok true) mid
     → IfEnds next Which → IfDone m next mid new now after → IfLoses m next mid new now after
     → IfEnds next (λ ended. (before : LiveStory) → now ≡ with_read Step [] (flushed before) → LastRound m old before new after ended)
 steps-last m old mid new now after Goes rests session each which done fails = tt
@@ -67,7 +67,7 @@ starved-last m old mid new now after fault ended rests session each opened which
     ]
 
 -- no step was made, and the read that waits failed
-pub waits-last : {S : Type 0} (m : Meaning S) (old mid new : Target S) (now after : LiveStory) (next : Next) → Rests old → is_established old.end ≡ true → StepsEach m None old (Ok false) mid
+pub waits-last : {S : Type 0} (m : Meaning S) (old mid new : Target S) (now after : LiveStory) (next : AfterLiveRound) → Rests old → is_established old.end ≡ true → StepsEach m None old (Ok false) mid
     → IfEnds next (λ ended. (ended ≡ LostByRead) × LosesAtRead Forever mid new now after)
     → IfEnds next (λ ended. (before : LiveStory) → now ≡ with_read Step [] (flushed before) → LastRound m old before new after ended)
 waits-last m old mid new now after Goes rests session each which = tt
@@ -81,7 +81,7 @@ reads-first {S = S} m old new now after greeted rests session h before e =
     let at : ReadsSome (patience_of old) old new now after = subst (λ (b : Bool). ReadsSome (patience_at b) old new now after) (sym session) h in
     Reads rests (subst (λ (x : LiveStory). ReadsSome (patience_of old) old new x after) e at)
 
-pub reads-last : {S : Type 0} (m : Meaning S) (old new : Target S) (now after : LiveStory) (greeted : Bool) (next : Next) → Rests old → is_established old.end ≡ greeted
+pub reads-last : {S : Type 0} (m : Meaning S) (old new : Target S) (now after : LiveStory) (greeted : Bool) (next : AfterLiveRound) → Rests old → is_established old.end ≡ greeted
     → IfEnds next (λ ended. (ended ≡ LostByRead) × LosesAtRead (patience_at greeted) old new now after)
     → IfEnds next (λ ended. (before : LiveStory) → now ≡ flushed before → LastRound m old before new after ended)
 reads-last m old new now after greeted Goes rests session which = tt
@@ -91,13 +91,13 @@ reads-last {S = S} m old new now after greeted (Ends ended) rests session (is, l
     rw is (CantRead rests (subst (λ (x : LiveStory). LosesAtRead (patience_of old) old new x after) e at))
 
 -- behind what stood before: a flush, or a flush and a read that found nothing
-pub behind-last : {S : Type 0} (m : Meaning S) (old new : Target S) (before now after : LiveStory) (next : Next) → now ≡ flushed before
+pub behind-last : {S : Type 0} (m : Meaning S) (old new : Target S) (before now after : LiveStory) (next : AfterLiveRound) → now ≡ flushed before
     → IfEnds next (λ ended. (before : LiveStory) → now ≡ flushed before → LastRound m old before new after ended)
     → IfEnds next (LastRound m old before new after)
 behind-last m old new before now after Goes e last = tt
 behind-last m old new before now after (Ends ended) e last = last before e
 
-pub behind-nothing : {S : Type 0} (m : Meaning S) (old new : Target S) (mid now after : LiveStory) (next : Next) → now ≡ with_read Step [] mid
+pub behind-nothing : {S : Type 0} (m : Meaning S) (old new : Target S) (mid now after : LiveStory) (next : AfterLiveRound) → now ≡ with_read Step [] mid
     → IfEnds next (λ ended. (before : LiveStory) → now ≡ with_read Step [] (flushed before) → LastRound m old before new after ended)
     → IfEnds next (λ ended. (before : LiveStory) → mid ≡ flushed before → LastRound m old before new after ended)
 behind-nothing m old new mid now after Goes e last = tt

@@ -15,14 +15,14 @@ use Rattle.jdwp_target.specs.declared.target.Turn.TheVariants.{Nothing}
 use Rattle.jdwp_target.specs.Targets.{Target, Ran, lost_target, with_fed, with_taken}
 use Rattle.jdwp_target.specs.ReadsBack.{ReleaseReadsBack, TurnReadsBack}
 use Rattle.jdwp_target.specs.Turns.{TurnsAt}
-use Rattle.jdwp_pipe.specs.declared.ended.Ended.{Ended}
-use Rattle.jdwp_pipe.specs.declared.ended.Ended.TheVariants.{Done, LostByRead, LostByWrite, Refused, NoMemory, TurnLimit}
-use Rattle.jdwp_pipe.specs.Endings.{unflushed_end}
+use Rattle.jdwp_end.specs.declared.pipes.ended.Ended.{Ended}
+use Rattle.jdwp_end.specs.declared.pipes.ended.Ended.TheVariants.{Done, LostByRead, LostByWrite, Refused, NoMemory, TurnLimit}
+use Rattle.jdwp_end.specs.Endings.{unflushed_end}
 use Rattle.jdwp_engine.specs.Rounds.{StepsEach}
 use Rattle.jdwp_engine.specs.Sessions.{ReleasesNewest, unflushed_target}
-use Rattle.jdwp_live_pipe.specs.declared.pipe.Patience.{Patience}
-use Rattle.jdwp_live_pipe.specs.declared.pipe.Patience.TheVariants.{Handshake, Step, Forever}
-use Rattle.jdwp_live_pipe.specs.LiveStory.{FailsFlush, FailsRead, FailsWrite, LiveStory, flushed, with_read, with_written}
+use Rattle.jdwp_live.specs.declared.pipes.pipe.Patience.{Patience}
+use Rattle.jdwp_live.specs.declared.pipes.pipe.Patience.TheVariants.{Handshake, Step, Forever}
+use Rattle.jdwp_live.specs.LiveStory.{FailsFlush, FailsRead, FailsWrite, LiveStory, flushed, with_read, with_written}
 
 -- ---- bytes
 

@@ -7,22 +7,22 @@ ghost use Rattle.jdwp_target.specs.Targets as spec;
 ghost use Rattle.jdwp_target.specs.Targets.{Ran, opened_target};
 ghost use Rattle.jdwp_target.specs.ReadsBack.{StepReadsBack};
 ghost use Rattle.jdwp_target.specs.Turns.{StepsAt};
-ghost use Rattle.jdwp_pipe.specs.Endings.{unflushed_end};
-ghost use Rattle.jdwp_pipe.specs.Story as story;
+ghost use Rattle.jdwp_end.specs.Endings.{unflushed_end};
+ghost use Rattle.jdwp_end.specs.Story as story;
 ghost use Rattle.jdwp_engine.specs.Outcome.{EndsSo, MayEnd, MayStep};
 ghost use Rattle.jdwp_engine.specs.Run.{GoesOn, InOrder};
 ghost use Rattle.jdwp_engine.specs.Rounds.{IsAhead, StepsEach, id_in, is_step};
 ghost use Rattle.jdwp_engine.specs.Sessions.{unflushed_target};
 ghost use Rattle.jdwp_engine.specs.Steps.{StepsIf};
-ghost use Rattle.jdwp_live_pipe.specs.LiveStory.{LiveStory, flushed, with_read};
+ghost use Rattle.jdwp_live.specs.LiveStory.{LiveStory, flushed, with_read};
 ghost use Rattle.jdwp_live.specs.LiveNext.{IfEnds};
 ghost use Rattle.jdwp_live.specs.LiveRounds.{LastRound, LosesAtRead, LosesAtWrite, ReadsSome, Round, Runs, Serves, WritesAll, patience_at};
 
+use crate::pipes::{LivePipe, Patience, flush_all, read_and_feed, write_out};
+use jdwp_end::{CHUNK, Ended, NoInput};
 use jdwp_engine::ThreadWalk;
-use jdwp_live_pipe::{LivePipe, Patience, flush_all, read_and_feed, write_out};
 use jdwp_machine::Machine;
-use jdwp_pipe::{CHUNK, Ended, NoInput};
-use jdwp_target::{Stepped, Target, TargetFault, Turn, closes_for_a_reason};
+use jdwp_target::{Stepped, Target, TargetFault, Turn};
 use jdwp_value::ObjectId;
 
 /// Runs the target on the pipe for one live session, for at most so many rounds: no thread steps while bytes that came can be read, and none
@@ -131,7 +131,7 @@ fn run_rounds<M: Machine + Drop, P: LivePipe>(
     let mut buffer = [0; CHUNK];
     let mut greeted = false;
     for _done in 0..rounds {
-        if let Next::Ends(ended) = round(target, pipe, &mut buffer, &mut greeted) {
+        if let AfterLiveRound::Ends(ended) = round(target, pipe, &mut buffer, &mut greeted) {
             return ended;
         }
     }
@@ -140,7 +140,7 @@ fn run_rounds<M: Machine + Drop, P: LivePipe>(
 
 /// What an engine does after a round.
 #[derive(Clone, Copy)]
-enum Next {
+enum AfterLiveRound {
     /// The session goes on.
     Goes,
     Ends(Ended),
@@ -153,27 +153,29 @@ fn round<M: Machine + Drop, P: LivePipe>(
     pipe: &mut P,
     buffer: &mut [u8; CHUNK],
     greeted: &mut bool,
-) -> Next
+) -> AfterLiveRound
     requires is_open { is_open target.old.end ≡ true }
     requires idle { target.old.end.outgoing ≡ [] }
     requires greeted { greeted.old ≡ nat_lt 0 target.old.end.session.turns }
-    ensures goes { result ≡ Next.Goes → GoesOn target.old target.new (P.story pipe.old).through
+    ensures goes { result ≡ AfterLiveRound.Goes → GoesOn target.old target.new (P.story pipe.old).through
         (P.story pipe.new).through }
     ensures ends { IfEnds result (EndsSo M.meaning target.old target.new
         (P.story pipe.old).through (P.story pipe.new).through) }
-    ensures greeted { result ≡ Next.Goes
+    ensures greeted { result ≡ AfterLiveRound.Goes
         → greeted.new ≡ nat_lt 0 target.new.end.session.turns }
-    ensures round { result ≡ Next.Goes → Round M.meaning target.old (P.story pipe.old) target.new
+    ensures round { result ≡ AfterLiveRound.Goes → Round M.meaning target.old (P.story pipe.old) target.new
         (P.story pipe.new) }
     ensures last { IfEnds result (LastRound M.meaning target.old (P.story pipe.old) target.new
         (P.story pipe.new)) }
 {
-    closes_for_a_reason::<M>();
+    jdwp_target::laws::closes_for_a_reason::<M>();
     target.session();
     let turn = match target.turn() {
         Ok(turn) => turn,
-        Err(TargetFault::Frame(fault)) => return Next::Ends(Ended::Refused(fault.number())),
-        Err(TargetFault::NoMemory) => return Next::Ends(Ended::NoMemory),
+        Err(TargetFault::Frame(fault)) => return AfterLiveRound::Ends(Ended::Refused(
+            fault.number(),
+        )),
+        Err(TargetFault::NoMemory) => return AfterLiveRound::Ends(Ended::NoMemory),
     };
     match turn {
         Turn::Nothing => flush_and_go(target, pipe, buffer, *greeted),
@@ -190,20 +192,20 @@ fn flush_and_go<M: Machine + Drop, P: LivePipe>(
     pipe: &mut P,
     buffer: &mut [u8; CHUNK],
     greeted: bool,
-) -> Next
+) -> AfterLiveRound
     requires is_open { is_open target.old.end ≡ true }
     requires idle { target.old.end.outgoing ≡ [] }
     requires asks { front_of target.old.end ≡ More }
     requires flows { is_paused target.old.end ≡ false }
     requires room { 0 < room_of target.old.end }
     requires greeted { greeted ≡ nat_lt 0 target.old.end.session.turns }
-    ensures goes { result ≡ Next.Goes → GoesOn target.old target.new (P.story pipe.old).through
+    ensures goes { result ≡ AfterLiveRound.Goes → GoesOn target.old target.new (P.story pipe.old).through
         (P.story pipe.new).through }
     ensures ends { IfEnds result (EndsSo M.meaning target.old target.new
         (P.story pipe.old).through (P.story pipe.new).through) }
-    ensures turns { result ≡ Next.Goes
+    ensures turns { result ≡ AfterLiveRound.Goes
         → target.new.end.session.turns ≡ target.old.end.session.turns }
-    ensures round { result ≡ Next.Goes → Round M.meaning target.old (P.story pipe.old) target.new
+    ensures round { result ≡ AfterLiveRound.Goes → Round M.meaning target.old (P.story pipe.old) target.new
         (P.story pipe.new) }
     ensures last { IfEnds result (LastRound M.meaning target.old (P.story pipe.old) target.new
         (P.story pipe.new)) }
@@ -211,7 +213,7 @@ fn flush_and_go<M: Machine + Drop, P: LivePipe>(
     target.session();
     if !flush_all(pipe) {
         target.lose();
-        return Next::Ends(Ended::LostByWrite);
+        return AfterLiveRound::Ends(Ended::LostByWrite);
     }
     if target.deferred() > 0 {
         release_and_go(target, pipe)
@@ -221,28 +223,31 @@ fn flush_and_go<M: Machine + Drop, P: LivePipe>(
 }
 
 /// Releases the newest deferred command. What waits to leave is written.
-fn release_and_go<M: Machine + Drop, P: LivePipe>(target: &mut Target<M>, pipe: &mut P) -> Next
+fn release_and_go<M: Machine + Drop, P: LivePipe>(
+    target: &mut Target<M>,
+    pipe: &mut P,
+) -> AfterLiveRound
     requires is_open { is_open target.old.end ≡ true }
     requires asks { front_of target.old.end ≡ More }
     requires flows { is_paused target.old.end ≡ false }
     requires waits { 0 < length target.old.deferred }
-    ensures goes { result ≡ Next.Goes → GoesOn target.old target.new (P.story pipe.old).through
+    ensures goes { result ≡ AfterLiveRound.Goes → GoesOn target.old target.new (P.story pipe.old).through
         (P.story pipe.new).through }
     ensures ends { IfEnds result (EndsSo M.meaning target.old target.new
         (P.story pipe.old).through (P.story pipe.new).through) }
-    ensures turns { result ≡ Next.Goes
+    ensures turns { result ≡ AfterLiveRound.Goes
         → target.new.end.session.turns ≡ target.old.end.session.turns }
-    ensures round { result ≡ Next.Goes → (before : LiveStory) → P.story pipe.old ≡ flushed before
+    ensures round { result ≡ AfterLiveRound.Goes → (before : LiveStory) → P.story pipe.old ≡ flushed before
         → Round M.meaning target.old before target.new (P.story pipe.new) }
     ensures last { IfEnds result (λ ended. (before : LiveStory) → P.story pipe.old ≡ flushed before
         → LastRound M.meaning target.old before target.new (P.story pipe.new) ended) }
 {
-    closes_for_a_reason::<M>();
+    jdwp_target::laws::closes_for_a_reason::<M>();
     target.session();
     let newest = target.deferred() - 1;
     match target.release(newest) {
         Ok(_) => write_and_go(target, pipe),
-        Err(_) => Next::Ends(Ended::NoMemory),
+        Err(_) => AfterLiveRound::Ends(Ended::NoMemory),
     }
 }
 
@@ -253,7 +258,7 @@ fn read_or_step<M: Machine + Drop, P: LivePipe>(
     pipe: &mut P,
     buffer: &mut [u8; CHUNK],
     greeted: bool,
-) -> Next
+) -> AfterLiveRound
     requires is_open { is_open target.old.end ≡ true }
     requires idle { target.old.end.outgoing ≡ [] }
     requires asks { front_of target.old.end ≡ More }
@@ -262,13 +267,13 @@ fn read_or_step<M: Machine + Drop, P: LivePipe>(
     requires none { target.old.deferred ≡ [] }
     requires left { (P.story pipe.old).through.unflushed ≡ [] }
     requires greeted { greeted ≡ nat_lt 0 target.old.end.session.turns }
-    ensures goes { result ≡ Next.Goes → GoesOn target.old target.new (P.story pipe.old).through
+    ensures goes { result ≡ AfterLiveRound.Goes → GoesOn target.old target.new (P.story pipe.old).through
         (P.story pipe.new).through }
     ensures ends { IfEnds result (EndsSo M.meaning target.old target.new
         (P.story pipe.old).through (P.story pipe.new).through) }
-    ensures turns { result ≡ Next.Goes
+    ensures turns { result ≡ AfterLiveRound.Goes
         → target.new.end.session.turns ≡ target.old.end.session.turns }
-    ensures round { result ≡ Next.Goes → (before : LiveStory) → P.story pipe.old ≡ flushed before
+    ensures round { result ≡ AfterLiveRound.Goes → (before : LiveStory) → P.story pipe.old ≡ flushed before
         → Round M.meaning target.old before target.new (P.story pipe.new) }
     ensures last { IfEnds result (λ ended. (before : LiveStory) → P.story pipe.old ≡ flushed before
         → LastRound M.meaning target.old before target.new (P.story pipe.new) ended) }
@@ -296,7 +301,7 @@ fn step_or_wait<M: Machine + Drop, P: LivePipe>(
     target: &mut Target<M>,
     pipe: &mut P,
     buffer: &mut [u8; CHUNK],
-) -> Next
+) -> AfterLiveRound
     requires is_open { is_open target.old.end ≡ true }
     requires established { is_established target.old.end ≡ true }
     requires asks { front_of target.old.end ≡ More }
@@ -304,13 +309,13 @@ fn step_or_wait<M: Machine + Drop, P: LivePipe>(
     requires room { 0 < room_of target.old.end }
     requires none { target.old.deferred ≡ [] }
     requires left { (P.story pipe.old).through.unflushed ≡ [] }
-    ensures goes { result ≡ Next.Goes → GoesOn target.old target.new (P.story pipe.old).through
+    ensures goes { result ≡ AfterLiveRound.Goes → GoesOn target.old target.new (P.story pipe.old).through
         (P.story pipe.new).through }
     ensures ends { IfEnds result (EndsSo M.meaning target.old target.new
         (P.story pipe.old).through (P.story pipe.new).through) }
-    ensures turns { result ≡ Next.Goes
+    ensures turns { result ≡ AfterLiveRound.Goes
         → target.new.end.session.turns ≡ target.old.end.session.turns }
-    ensures round { result ≡ Next.Goes → (before : LiveStory)
+    ensures round { result ≡ AfterLiveRound.Goes → (before : LiveStory)
         → P.story pipe.old ≡ with_read Patience.Step [] (flushed before)
         → Round M.meaning target.old before target.new (P.story pipe.new) }
     ensures last { IfEnds result (λ ended. (before : LiveStory)
@@ -322,8 +327,8 @@ fn step_or_wait<M: Machine + Drop, P: LivePipe>(
         Ok(false) => wait_and_go(target, pipe, buffer),
         Ok(true) => write_and_go(target, pipe),
         Err(_) => match write_and_go(target, pipe) {
-            Next::Goes => Next::Ends(Ended::NoMemory),
-            Next::Ends(ended) => Next::Ends(ended),
+            AfterLiveRound::Goes => AfterLiveRound::Ends(Ended::NoMemory),
+            AfterLiveRound::Ends(ended) => AfterLiveRound::Ends(ended),
         },
     }
 }
@@ -373,7 +378,7 @@ fn step_one<M: Machine + Drop>(
         (id_in walk.old.last) walk.old.place → IsAhead (M.meaning.live target.new.moment.machine)
         (id_in walk.new.last) walk.new.place) }
 {
-    closes_for_a_reason::<M>();
+    jdwp_target::laws::closes_for_a_reason::<M>();
     let stepped = match target.step(thread) {
         Ok(stepped) => stepped,
         Err(fault) => return Err(fault),
@@ -394,10 +399,10 @@ fn read_and_go<M: Machine + Drop, P: LivePipe>(
     pipe: &mut P,
     patience: Patience,
     buffer: &mut [u8; CHUNK],
-) -> Option<Next>
+) -> Option<AfterLiveRound>
     requires room { 0 < room_of target.old.end }
     requires left { (P.story pipe.old).through.unflushed ≡ [] }
-    ensures goes { result ≡ Some Next.Goes → ReadsSome patience target.old target.new
+    ensures goes { result ≡ Some AfterLiveRound.Goes → ReadsSome patience target.old target.new
         (P.story pipe.old) (P.story pipe.new) }
     ensures nothing { result ≡ None → (patience ≡ Patience.Step) × (target.new ≡ target.old)
         × (P.story pipe.new ≡ with_read patience [] (P.story pipe.old)) }
@@ -405,11 +410,11 @@ fn read_and_go<M: Machine + Drop, P: LivePipe>(
         × LosesAtRead patience target.old target.new (P.story pipe.old) (P.story pipe.new))) }
 {
     match read_and_feed(target, pipe, patience, buffer) {
-        Ok(true) => Some(Next::Goes),
+        Ok(true) => Some(AfterLiveRound::Goes),
         Ok(false) => None,
         Err(NoInput) => {
             target.lose();
-            Some(Next::Ends(Ended::LostByRead))
+            Some(AfterLiveRound::Ends(Ended::LostByRead))
         }
     }
 }
@@ -419,43 +424,46 @@ fn wait_and_go<M: Machine + Drop, P: LivePipe>(
     target: &mut Target<M>,
     pipe: &mut P,
     buffer: &mut [u8; CHUNK],
-) -> Next
+) -> AfterLiveRound
     requires room { 0 < room_of target.old.end }
     requires left { (P.story pipe.old).through.unflushed ≡ [] }
-    ensures goes { result ≡ Next.Goes → ReadsSome Patience.Forever target.old target.new
+    ensures goes { result ≡ AfterLiveRound.Goes → ReadsSome Patience.Forever target.old target.new
         (P.story pipe.old) (P.story pipe.new) }
     ensures ends { IfEnds result (λ ended. (ended ≡ Ended.LostByRead)
         × LosesAtRead Patience.Forever target.old target.new (P.story pipe.old) (P.story pipe.new)) }
 {
     match read_and_feed(target, pipe, Patience::Forever, buffer) {
-        Ok(_) => Next::Goes,
+        Ok(_) => AfterLiveRound::Goes,
         Err(NoInput) => {
             target.lose();
-            Next::Ends(Ended::LostByRead)
+            AfterLiveRound::Ends(Ended::LostByRead)
         }
     }
 }
 
 /// Writes what waits, and ends where a write fails or the session has closed.
-fn write_and_go<M: Machine + Drop, P: LivePipe>(target: &mut Target<M>, pipe: &mut P) -> Next
-    ensures goes { result ≡ Next.Goes → (is_open target.old.end ≡ true)
+fn write_and_go<M: Machine + Drop, P: LivePipe>(
+    target: &mut Target<M>,
+    pipe: &mut P,
+) -> AfterLiveRound
+    ensures goes { result ≡ AfterLiveRound.Goes → (is_open target.old.end ≡ true)
         × WritesAll target.old target.new (P.story pipe.old) (P.story pipe.new) }
-    ensures done { result ≡ Next.Ends Ended.Done → (is_open target.old.end ≡ false)
+    ensures done { result ≡ AfterLiveRound.Ends Ended.Done → (is_open target.old.end ≡ false)
         × WritesAll target.old target.new (P.story pipe.old) (P.story pipe.new)
         × Ran M.meaning target.new }
     ensures ends { IfEnds result (λ ended. (ended ≡ Ended.Done) ⊎ (ended ≡ Ended.LostByWrite)) }
-    ensures fails { result ≡ Next.Ends Ended.LostByWrite
+    ensures fails { result ≡ AfterLiveRound.Ends Ended.LostByWrite
         → LosesAtWrite M.meaning target.old target.new (P.story pipe.old) (P.story pipe.new) }
 {
     let written = write_out(target, pipe);
     target.session();
     if !written {
         target.lose();
-        return Next::Ends(Ended::LostByWrite);
+        return AfterLiveRound::Ends(Ended::LostByWrite);
     }
     if target.is_open() {
-        Next::Goes
+        AfterLiveRound::Goes
     } else {
-        Next::Ends(Ended::Done)
+        AfterLiveRound::Ends(Ended::Done)
     }
 }

@@ -1,4 +1,4 @@
-//! What follows from the laws of machines, each the contract of a function without a body.
+//! Laws: each function says what holds, in its contract, and does nothing; to call it is to cite it.
 ghost use Rattle.std.specs.Prelude.{◌≡◌, ℕ, Some, false, true};
 ghost use Rattle.jdwp_event.specs.Occurrences.{started};
 ghost use Rattle.jdwp_machine.specs.Laws.{MayEnds, MaySteps};

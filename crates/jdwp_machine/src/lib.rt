@@ -1,12 +1,11 @@
 //! What a target runs: the trait `Machine` with its laws.
 #![tactic(auto)]
 
-mod laws;
+pub mod laws;
 mod live;
 mod machine;
 mod query;
 
-pub use laws::{ends_its_thread, starts_a_new_thread};
 pub use live::{has_run_out, is_among};
 pub use machine::Machine;
 pub use query::Query;

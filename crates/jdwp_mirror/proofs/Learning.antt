@@ -8,7 +8,7 @@ use Rattle.jdwp_layout.specs.declared.answer.Answer.TheVariants.{Data, Error}
 use Rattle.jdwp_layout.specs.CommandNumbers.{is_command, STACK_FRAME, FRAMES, FRAME_COUNT, SUSPEND, RESUME, DISPOSE, EXIT, HOLD_EVENTS, RELEASE_EVENTS, ALL_THREADS, ID_SIZES, SET_REQUEST, CLEAR_REQUEST, CLEAR_ALL_BREAKPOINTS, SUSPEND_THREAD, RESUME_THREAD, SUSPEND_COUNT, THREAD_STATUS, SET_SLOTS}
 use Rattle.jdwp_layout.specs.Meanings.{DatumMeaning, Byte, Int, Object, Frame, One, Many}
 use Rattle.jdwp_event.specs.Composites.{CompositeMeaning, POLICY_ALL}
-use Rattle.jdwp_event.specs.Told.{composite_thread, is_vm_death}
+use Rattle.jdwp_event.specs.Told.{composite_thread, is_vm_death, id_found, object_id}
 use Rattle.jdwp_action.specs.Actions
 use Rattle.jdwp_action.specs.Actions.{Action, Carried, Content, Command, action_of, action_by, thread_of, thread_action, other_action, slots_of, set_action, clear_action, about}
 use Rattle.jdwp_value.specs.declared.id.ObjectId.{ObjectId}
@@ -19,7 +19,7 @@ use Rattle.jdwp_mirror.specs.declared.threads.Lesson.{Lesson}
 use Rattle.jdwp_mirror.specs.Messages.{Ticket, Reply, Report}
 use Rattle.jdwp_mirror.specs.Mirror.{Kept, counted, first_count, is_invalid_thread, is_last_of_thread, is_positive, is_thread, learned_data, lists, one_more, one_less, other_count, requests_after_data, shows_data, taught}
 use Rattle.jdwp_mirror.specs.Mirrors.{Mirror, Learned, empty_mirror}
-use Rattle.jdwp_mirror.specs.CommandKinds.{kind_of, id_found, lesson_of, lesson_of_event, object_id, requests_after_kind, set_to, threads_after_data, threads_after_error, threads_after_event, with_counted, with_found, without_found}
+use Rattle.jdwp_mirror.specs.CommandKinds.{kind_of, lesson_of, lesson_of_event, requests_after_kind, set_to, threads_after_data, threads_after_error, threads_after_event, with_counted, with_found, without_found}
 use Rattle.jdwp_mirror.specs.KnownThreads.{AreSound, KeepsOrder, all_taught, change_of, count_by, count_in, is_held_in, is_of_id, only, shown_by, unseen_thread, with_thread, without}
 use Rattle.jdwp_mirror.proofs.KnownLemmas.{count-taught, held-taught, count-only, held-only, count-pushed, held-pushed, held-is, same_from, eq-self, turned}
 use Rattle.jdwp_mirror.proofs.OrderLemmas.{order-data, order-error, order-event, order-none}

@@ -64,13 +64,6 @@ other_kind_of c =
 
 -- ---- what a reply without an error leaves of the threads
 
-abbrev pub object_id : ℕ → ObjectId
-object_id n = record { 0 = n }
-
-abbrev pub id_found : Option ℕ → Option ObjectId
-id_found None = None
-id_found (Some n) = Some (object_id n)
-
 -- the count that was read, in place of what was known
 abbrev pub set_to : Option ℕ → Change
 set_to None = Keep

@@ -2,7 +2,8 @@
 ghost use Rattle.std.specs.Prelude.{◌≡◌, ◌==◌, ◌&&◌, IfOk};
 ghost use Rattle.jdwp_action.specs.Actions as actions;
 ghost use Rattle.jdwp_action.specs.Actions.{action_of, clear_action, first_object, object_in, set_action, thread_of};
-ghost use Rattle.jdwp_mirror.specs.CommandKinds.{kind_of, id_found, other_kind_of, request_kind_of, thread_kind_of};
+ghost use Rattle.jdwp_mirror.specs.CommandKinds.{kind_of, other_kind_of, request_kind_of, thread_kind_of};
+ghost use Rattle.jdwp_event.specs.Told.{id_found};
 ghost use Rattle.jdwp_mirror.specs.Commands.{carried_meaning};
 ghost use Rattle.jdwp_layout.specs.Meanings.{meanings};
 

@@ -8,10 +8,9 @@ ghost use Rattle.jdwp_mirror.specs.KnownThreads.{count_in};
 ghost use Rattle.jdwp_mirror.specs.Widths.{width_said, widths_in, widths_if};
 
 use crate::command::{Command, CommandKind};
-use crate::composite::{has_event_of, thread_in, thread_of_event};
 use crate::mirror::Mirror;
 use crate::reply::{count_in_reply, id_in_reply};
-use jdwp_event::{Composite, Event, EventKind, Policy};
+use jdwp_event::{Composite, Event, EventKind, Policy, has_event_of, thread_in, thread_of_event};
 use jdwp_layout::{Answer, Data, Datum, Scalar};
 use jdwp_value::ObjectId;
 use jdwp_wire::IdSizes;

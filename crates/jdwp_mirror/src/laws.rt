@@ -1,4 +1,4 @@
-//! What each packet means to a debugger, in the standard's numbers: the definitions say the same.
+//! Laws: each function says what holds, in its contract, and does nothing; to call it is to cite it.
 ghost use Rattle.jdwp_mirror.specs.Laws.{AllAreCounted, OneIsCounted, FramesShow, ErrorsForget, ListsForget, EventsCount, RequestsAreKept, RefusesEvents, RefusesReplies};
 
 /// An OK reply to a Suspend or a Resume moves the counts that it is about and no other, never above 2,147,483,647; one to a Suspend of

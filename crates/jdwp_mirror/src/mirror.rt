@@ -2,8 +2,8 @@
 ghost use Rattle.std.specs.Prelude.{◌≡◌, OnErr, OnOk};
 ghost use Rattle.std.specs.Map.Iter.{GivesInOrder, ShowsInOrder, deref};
 ghost use Rattle.jdwp_action.specs.Actions.{action_of, thread_of};
-ghost use Rattle.jdwp_event.specs.Told.{composite_thread};
-ghost use Rattle.jdwp_mirror.specs.CommandKinds.{kind_of, id_found, requests_after_kind, requests_after_others, threads_after_data, threads_after_error, threads_after_event, threads_after_others};
+ghost use Rattle.jdwp_event.specs.Told.{composite_thread, id_found};
+ghost use Rattle.jdwp_mirror.specs.CommandKinds.{kind_of, requests_after_kind, requests_after_others, threads_after_data, threads_after_error, threads_after_event, threads_after_others};
 ghost use Rattle.jdwp_mirror.specs.FaultParts.{IsData};
 ghost use Rattle.jdwp_mirror.specs.declared.threads.Known.{Known};
 ghost use Rattle.jdwp_mirror.specs.KnownThreads.{AreDistinct, IsOfUnknown, count_in, is_held_in};
@@ -13,12 +13,11 @@ ghost use Rattle.jdwp_mirror.specs.Mirrors as mirrors;
 ghost use Rattle.jdwp_mirror.specs.Mirrors.{Learned, empty_mirror};
 
 use crate::command::{Command, CommandKind};
-use crate::composite::{has_event_of, thread_in};
 use crate::kept::KeptRequests;
 use crate::known::KnownThreads;
 use crate::requests::Requests;
 use crate::threads::{Lesson, Threads};
-use jdwp_event::{Composite, EventKind, Policy};
+use jdwp_event::{Composite, EventKind, Policy, has_event_of, thread_in};
 use jdwp_layout::{Answer, Data};
 use jdwp_value::ObjectId;
 use jdwp_wire::{ErrorCode, NoMemory};

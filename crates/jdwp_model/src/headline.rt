@@ -8,7 +8,7 @@ ghost use Rattle.jdwp_model.specs.Soundness.{AlwaysStandsSoundly};
 ghost use Rattle.jdwp_model.specs.Places.{EachAtOnePlace};
 ghost use Rattle.jdwp_model.specs.Deferred.{DefersFew};
 
-use crate::rests::rests_on_laws;
+use crate::laws;
 use jdwp_machine::Machine;
 
 /// What the debugger's mirror shows is what the target had when it sent the last packet that the debugger read.
@@ -21,7 +21,7 @@ pub fn mirrors_what_was_seen<M: Machine>()
     ensures counts { Always M.meaning HasTheCounts }
     ensures requests { Always M.meaning HasTheRequests }
 {
-    rests_on_laws::<M>();
+    laws::rests_on_laws::<M>();
 }
 
 /// A thread that the debugger holds for suspended is suspended in the target now, whatever is under way between them, unless the
@@ -32,7 +32,7 @@ pub fn holds_only_suspended_threads<M: Machine>()
     ensures suspended { Always M.meaning HeldIsSuspended }
     ensures covered { Always M.meaning HeldIsCovered }
 {
-    rests_on_laws::<M>();
+    laws::rests_on_laws::<M>();
 }
 
 /// The suspend count in the target of each known thread that lived as the last packet read was sent exceeds the one that the debugger shows
@@ -40,7 +40,7 @@ pub fn holds_only_suspended_threads<M: Machine>()
 pub fn counts_at_most<M: Machine>()
     ensures { Always M.meaning CountIsAtMost }
 {
-    rests_on_laws::<M>();
+    laws::rests_on_laws::<M>();
 }
 
 /// Each command that was asked is settled once: it is answered, or it is lost as the debugger's end closes.
@@ -48,7 +48,7 @@ pub fn counts_at_most<M: Machine>()
 pub fn settles_each_command_once<M: Machine>()
     ensures { SettlesOnce M.meaning }
 {
-    rests_on_laws::<M>();
+    laws::rests_on_laws::<M>();
 }
 
 /// As long as no target begins to defer replies, commands are settled in the order asked: those that are settled and then those that
@@ -56,7 +56,7 @@ pub fn settles_each_command_once<M: Machine>()
 pub fn settles_in_order<M: Machine>()
     ensures { SettlesInOrder M.meaning }
 {
-    rests_on_laws::<M>();
+    laws::rests_on_laws::<M>();
 }
 
 /// Each answer that the debugger tells of a ticket is the one that the target gave to that same ticket when it carried out its command,
@@ -76,7 +76,7 @@ pub fn meets_no_fault<M: Machine>()
     ensures target { Always M.meaning NoCallIsRefused }
     ensures waiting { Always M.meaning FewWait }
 {
-    rests_on_laws::<M>();
+    laws::rests_on_laws::<M>();
 }
 
 /// A reply that the debugger reads next is to one command that waits, under its ticket; and no two commands that are under way, or are
@@ -85,14 +85,14 @@ pub fn answers_one_that_waits<M: Machine>()
     ensures one { Always M.meaning AnswersOneWaiting }
     ensures places { Always M.meaning EachAtOnePlace }
 {
-    rests_on_laws::<M>();
+    laws::rests_on_laws::<M>();
 }
 
 /// As long as no target begins to defer replies, a reply that the debugger reads next is to the command that waits longest.
 pub fn answers_the_first_waiting<M: Machine>()
     ensures { AlwaysUndeferred M.meaning AnswersFirstWaiting }
 {
-    rests_on_laws::<M>();
+    laws::rests_on_laws::<M>();
 }
 
 /// A target defers at most 16 commands at a time, all of them of the sets ReferenceType and Method, and none but in an established
@@ -100,7 +100,7 @@ pub fn answers_the_first_waiting<M: Machine>()
 pub fn defers_few_commands<M: Machine>()
     ensures { Always M.meaning DefersFew }
 {
-    rests_on_laws::<M>();
+    laws::rests_on_laws::<M>();
 }
 
 /// No turn is a loss, and none closes the debugger's end but at an end of the session.
@@ -112,7 +112,7 @@ pub fn turns_close_at_ends_alone<M: Machine>()
     ensures target { AtEachTurn M.meaning (TurnsLoseNothing M.meaning) }
     ensures debugger { AtEachTurn M.meaning TurnsCloseAtEnds }
 {
-    rests_on_laws::<M>();
+    laws::rests_on_laws::<M>();
 }
 
 /// A turn that handles no message, a release that answers no command and a step that is not made leave everything as it was, and
@@ -120,7 +120,7 @@ pub fn turns_close_at_ends_alone<M: Machine>()
 pub fn idle_turns_change_nothing<M: Machine>()
     ensures { AtEachTurn M.meaning (IdlesUnchanged M.meaning) }
 {
-    rests_on_laws::<M>();
+    laws::rests_on_laws::<M>();
 }
 
 /// What the debugger read of a suspended thread's frames (where they are, how many, their slots, their `this`) the target would answer
@@ -131,7 +131,7 @@ pub fn idle_turns_change_nothing<M: Machine>()
 pub fn frames_read_stay_true<M: Machine>()
     ensures { AlwaysStaysTrue M.meaning }
 {
-    rests_on_laws::<M>();
+    laws::rests_on_laws::<M>();
 }
 
 /// Whatever events led there, the debuggee is sound, there are no requests but in an established session, a target that is open noticed
@@ -139,5 +139,5 @@ pub fn frames_read_stay_true<M: Machine>()
 pub fn stands_soundly<M: Machine>()
     ensures { AlwaysStandsSoundly M.meaning }
 {
-    rests_on_laws::<M>();
+    laws::rests_on_laws::<M>();
 }

@@ -2,7 +2,7 @@
 #![tactic(auto)]
 
 mod headline;
-mod rests;
+mod laws;
 mod worked;
 
 pub use headline::{

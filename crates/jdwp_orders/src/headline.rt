@@ -1,7 +1,7 @@
 //! What holds of the model of both ends, of every machine and over every list of events: each function is a theorem, and does nothing.
 ghost use Rattle.jdwp_orders.specs.Headline.{Always, ActsInOneOrder, SureIsSuspended, SureIsCovered, SureIsMirrored};
 
-use crate::rests::rests_on_laws;
+use crate::laws;
 use jdwp_apart::shows_only_suspended_threads;
 use jdwp_machine::Machine;
 
@@ -11,7 +11,7 @@ use jdwp_machine::Machine;
 pub fn acts_in_one_order<M: Machine>()
     ensures { Always M.meaning ActsInOneOrder }
 {
-    rests_on_laws::<M>();
+    laws::rests_on_laws::<M>();
 }
 
 /// So a thread that lives and that the debugger is sure of, by what it asked and read in this session alone, is suspended in the target
@@ -22,6 +22,6 @@ pub fn is_sure_of_suspended_threads_only<M: Machine>()
     ensures covered { Always M.meaning SureIsCovered }
     ensures mirrored { Always M.meaning SureIsMirrored }
 {
-    rests_on_laws::<M>();
+    laws::rests_on_laws::<M>();
     shows_only_suspended_threads();
 }

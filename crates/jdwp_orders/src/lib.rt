@@ -2,7 +2,7 @@
 #![tactic(auto)]
 
 mod headline;
-mod rests;
+mod laws;
 mod worked;
 
 pub use headline::{acts_in_one_order, is_sure_of_suspended_threads_only};

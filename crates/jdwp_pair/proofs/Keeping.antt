@@ -18,8 +18,8 @@ use Rattle.jdwp_model.specs.Events.{LinkEvent}
 use Rattle.jdwp_link.specs.declared.events.Outcome.{Outcome}
 use Rattle.jdwp_link.specs.Clauses.{Ran}
 use Rattle.jdwp_link.specs.Links.{Link, come_to_debugger, new_link}
-use Rattle.jdwp_pipe.specs.Story.{Story}
-use Rattle.jdwp_tell.specs.Telling.{TellsKnown, TellsMirror}
+use Rattle.jdwp_end.specs.Story.{Story}
+use Rattle.jdwp_attach.specs.Telling.{TellsKnown, TellsMirror}
 use Rattle.jdwp_pair.specs.declared.ended.PairEnded.{PairEnded}
 use Rattle.jdwp_pair.specs.declared.ended.PairEnded.TheVariants as ended
 use Rattle.jdwp_pair.specs.Events.{Happens, Leads, AskedCount, MayCount, Quietly, Standing, Stays, piece, refusal_in}

@@ -19,7 +19,7 @@ use Rattle.jdwp_link.specs.Links.{Link}
 use Rattle.jdwp_link.specs.Stands.{IsLink, StandsFor}
 use Rattle.jdwp_link.specs.Told.{told_outcomes}
 use Rattle.jdwp_engine.specs.Rounds.{IsNext}
-use Rattle.jdwp_pipe.specs.Story.{Story, with_written}
+use Rattle.jdwp_end.specs.Story.{Story, with_written}
 use Rattle.jdwp_pair.specs.declared.ended.PairEnded.{PairEnded}
 use Rattle.jdwp_pair.specs.declared.ended.PairEnded.TheVariants as ended
 use Rattle.jdwp_pair.specs.Events.{Happens, IsQuiet, Leads, Rests, Moved, Turned, AskedCount, Moves, Quietly, Standing, Stays, counted, piece, read_by, seen_in}

@@ -15,9 +15,9 @@ use Rattle.jdwp_model.specs.Events.{LinkEvent}
 use Rattle.jdwp_link.specs.declared.events.Outcome.{Outcome}
 use Rattle.jdwp_link.specs.Clauses.{Ran}
 use Rattle.jdwp_link.specs.Links.{Link}
-use Rattle.jdwp_pipe.specs.Story.{Story}
-use Rattle.jdwp_plan.specs.declared.plan_line.PlanLine.{PlanLine}
-use Rattle.jdwp_plan.specs.declared.plan_line.PlanLine.TheVariants as line
+use Rattle.jdwp_end.specs.Story.{Story}
+use Rattle.jdwp_attach.specs.declared.plans.plan_line.PlanLine.{PlanLine}
+use Rattle.jdwp_attach.specs.declared.plans.plan_line.PlanLine.TheVariants as line
 use Rattle.jdwp_pair.specs.declared.ended.PairEnded.{PairEnded}
 use Rattle.jdwp_pair.specs.declared.ended.PairEnded.TheVariants as ended
 use Rattle.jdwp_pair.specs.Connections.{is_disconnected}

@@ -1,6 +1,6 @@
 -- How a run stands that keeps its counts in the code's own form.
 use Rattle.jdwp_link.specs.Links.{Link}
-use Rattle.jdwp_pipe.specs.Story.{Story}
+use Rattle.jdwp_end.specs.Story.{Story}
 use Rattle.jdwp_pair.specs.declared.run.Run.{Run}
 use Rattle.jdwp_pair.specs.Events.{Standing}
 

@@ -12,7 +12,7 @@ use Rattle.jdwp_link.specs.declared.events.Outcome.{Outcome}
 use Rattle.jdwp_link.specs.declared.events.Outcome.TheVariants as outcome
 use Rattle.jdwp_link.specs.Clauses.{Ran}
 use Rattle.jdwp_link.specs.Links.{Link}
-use Rattle.jdwp_pipe.specs.Story.{Story, with_written}
+use Rattle.jdwp_end.specs.Story.{Story, with_written}
 use Rattle.jdwp_pair.specs.Telling.{turn_text}
 
 -- ---- what is told

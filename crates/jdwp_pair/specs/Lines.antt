@@ -14,12 +14,12 @@ use Rattle.jdwp_model.specs.Events.{LinkEvent, Attach, Ask, TargetLoses, Debugge
 use Rattle.jdwp_link.specs.declared.events.Outcome.{Outcome}
 use Rattle.jdwp_link.specs.Clauses.{Ran}
 use Rattle.jdwp_link.specs.Links.{Link}
-use Rattle.jdwp_pipe.specs.Story.{FailsWrite, Story, with_written}
-use Rattle.jdwp_plan.specs.declared.plan_line.PlanLine.{PlanLine}
-use Rattle.jdwp_plan.specs.declared.plan_line.PlanLine.TheVariants as line
+use Rattle.jdwp_end.specs.Story.{FailsWrite, Story, with_written}
+use Rattle.jdwp_attach.specs.declared.plans.plan_line.PlanLine.{PlanLine}
+use Rattle.jdwp_attach.specs.declared.plans.plan_line.PlanLine.TheVariants as line
 use Rattle.jdwp_attach.specs.PlanAsks.{command_asked}
 use Rattle.jdwp_port.specs.Served.{lives}
-use Rattle.jdwp_tell.specs.Telling.{TellsKnown, TellsMirror}
+use Rattle.jdwp_attach.specs.Telling.{TellsKnown, TellsMirror}
 use Rattle.jdwp_pair.specs.declared.ended.PairEnded.{PairEnded}
 use Rattle.jdwp_pair.specs.declared.ended.PairEnded.TheVariants as ended
 use Rattle.jdwp_pair.specs.Events.{Happens, MayLose, Standing, Stays, refusal_in}

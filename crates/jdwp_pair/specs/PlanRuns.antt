@@ -8,8 +8,8 @@ use Rattle.jdwp_debugger.specs.Debuggers.{has_tickets}
 use Rattle.jdwp_model.specs.Events.{Attach, Defer, TargetLoses}
 use Rattle.jdwp_link.specs.Clauses.{HoldsSuspended}
 use Rattle.jdwp_link.specs.Links.{Link, new_link}
-use Rattle.jdwp_pipe.specs.Story.{FailsFlush, Story, flushed}
-use Rattle.jdwp_plan.specs.declared.plan_line.PlanLine.{PlanLine}
+use Rattle.jdwp_end.specs.Story.{FailsFlush, Story, flushed}
+use Rattle.jdwp_attach.specs.declared.plans.plan_line.PlanLine.{PlanLine}
 use Rattle.jdwp_pair.specs.declared.ended.PairEnded.{PairEnded}
 use Rattle.jdwp_pair.specs.declared.ended.PairEnded.TheVariants as ended
 use Rattle.jdwp_pair.specs.Events.{Happens, MayLose, Standing}

@@ -10,8 +10,8 @@ use Rattle.jdwp_link.specs.declared.events.Outcome.{Outcome}
 use Rattle.jdwp_link.specs.Clauses.{Ran}
 use Rattle.jdwp_link.specs.Links.{Link}
 use Rattle.jdwp_engine.specs.Rounds.{IsNext}
-use Rattle.jdwp_pipe.specs.Story.{FailsWrite, Story, with_written}
-use Rattle.jdwp_plan.specs.declared.plan_line.PlanLine.{PlanLine}
+use Rattle.jdwp_end.specs.Story.{FailsWrite, Story, with_written}
+use Rattle.jdwp_attach.specs.declared.plans.plan_line.PlanLine.{PlanLine}
 use Rattle.jdwp_pair.specs.declared.ended.PairEnded.{PairEnded}
 use Rattle.jdwp_pair.specs.declared.ended.PairEnded.TheVariants as ended
 use Rattle.jdwp_pair.specs.Events.{Happens, Leads, MayCount, Moves, Quietly, Reads, Standing, Stays, piece}

@@ -6,10 +6,10 @@ use Rattle.jdwp_debugger.specs.declared.heads.Head.TheVariants as head
 use Rattle.jdwp_debugger.specs.Debuggers.{Debugger}
 use Rattle.jdwp_link.specs.declared.events.Outcome.{Outcome}
 use Rattle.jdwp_link.specs.declared.events.Outcome.TheVariants as outcome
-use Rattle.jdwp_pipe.specs.Story.{FailsWrite, Story}
+use Rattle.jdwp_end.specs.Story.{FailsWrite, Story}
 use Rattle.jdwp_show.specs.declared.capture_line.Sender.TheVariants.{Target}
 use Rattle.jdwp_show.specs.MessageLines.{hello_line}
-use Rattle.jdwp_tell.specs.Telling.{answered_line, named, seen_line, widths_line}
+use Rattle.jdwp_attach.specs.Telling.{answered_line, named, seen_line, widths_line}
 use Rattle.jdwp_pair.specs.declared.ended.PairEnded.{PairEnded}
 use Rattle.jdwp_pair.specs.declared.ended.PairEnded.TheVariants as ended
 

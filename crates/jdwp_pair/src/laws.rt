@@ -1,4 +1,4 @@
-//! What holds of the debugger that follows that of a link: the function is a theorem, and does nothing.
+//! Laws: each function says what holds, in its contract, and does nothing; to call it is to cite it.
 ghost use Rattle.jdwp_pair.specs.Followers.{TakesNoLess};
 
 /// A debugger of a target that sends replies and events by threads of its own takes each packet that one takes whose target sends each packet

@@ -6,7 +6,7 @@ mod connection;
 mod ended;
 mod following;
 mod happening;
-mod laws;
+pub mod laws;
 mod lines;
 mod loopback;
 mod losing;
@@ -19,6 +19,5 @@ mod telling;
 
 pub use connection::Connection;
 pub use ended::PairEnded;
-pub use laws::takes_what_the_first_takes;
 pub use loopback::Loopback;
 pub use pairing::{pair, pair_script, pair_session};

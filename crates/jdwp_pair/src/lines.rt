@@ -14,11 +14,11 @@ use crate::losing::{lose_debugger, lose_target};
 use crate::run::Run;
 use crate::standing::{awaits_answers, may_begin};
 use crate::telling::tell_known;
+use jdwp_attach::PlanLine;
 use jdwp_debugger::Debugger;
+use jdwp_end::Pipe;
 use jdwp_link::Link;
 use jdwp_machine::Machine;
-use jdwp_pipe::Pipe;
-use jdwp_plan::PlanLine;
 use std::alloc::Global;
 
 /// Carries out the next line of the plan, if there is one and it can be done now. Whether it was.

@@ -13,9 +13,9 @@ use crate::following::lose_too;
 use crate::happening::happen;
 use crate::telling::tell_lost;
 use jdwp_debugger::Debugger;
+use jdwp_end::Pipe;
 use jdwp_link::{Link, LinkEvent, Side};
 use jdwp_machine::Machine;
-use jdwp_pipe::Pipe;
 use std::alloc::Global;
 
 /// The target notices that the connection is lost, and closes its half.

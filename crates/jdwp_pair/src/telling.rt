@@ -2,19 +2,19 @@
 ghost use Rattle.std.specs.Prelude.{◌≡◌, ◌++◌, IfErr, IfOk, OnOk};
 ghost use Rattle.std.specs.String.{string_bytes};
 ghost use Rattle.jdwp_debugger.specs.declared.order.Order as orders;
-ghost use Rattle.jdwp_pipe.specs.Story.{with_written};
-ghost use Rattle.jdwp_tell.specs.Telling.{widths_line};
+ghost use Rattle.jdwp_end.specs.Story.{with_written};
+ghost use Rattle.jdwp_attach.specs.Telling.{widths_line};
 ghost use Rattle.jdwp_pair.specs.Events.{is_seen, seen_in};
 ghost use Rattle.jdwp_pair.specs.Followers.{Followed};
 ghost use Rattle.jdwp_pair.specs.Lines.{FailsToTellKnown, PrintsKnown, TellsBy};
 ghost use Rattle.jdwp_pair.specs.Telling.{FailsToTell, heads_text, lost_line, lost_text, told_line, turn_text, untold_line};
 
 use crate::ended::PairEnded;
+use jdwp_attach::{answered_line, hello_line, known_text, mirror_text, seen_line, sizes_line};
 use jdwp_debugger::{Debugger, Head, Mirror};
+use jdwp_end::{Pipe, write_all};
 use jdwp_link::{Link, Outcome};
 use jdwp_machine::Machine;
-use jdwp_pipe::{Pipe, write_all};
-use jdwp_tell::{answered_line, hello_line, known_text, mirror_text, seen_line, sizes_line};
 use jdwp_wire::{IdSizes, NoMemory};
 use std::alloc::Global;
 

@@ -1,14 +1,13 @@
 -- Numbers in a line.
-use Rattle.std.proofs.Common.{◌≡◌, ◌≢◌, ◌^◌, ℕ, ◌<◌, Bool, true, false, cond, ◌&&◌, List, length, get_or, Some, None, Result, Ok, Err, refl, ap, arith}
+use Rattle.std.proofs.Common.{◌≡◌, ◌≢◌, ◌^◌, ℕ, ◌<◌, Bool, true, false, ◌&&◌, List, length, get_or, Some, Result, Ok, Err, refl, ap}
 use Rattle.std.specs.Bool.{Decides}
 use Rattle.std.specs.Prelude.{nat_lt}
 use Rattle.std.specs.Result.{OkIff, result_ok}
 use Rattle.std.specs.Str.{all_ascii_digits}
 use Rattle.std.specs.Str.Parse.{digits_value, ParsesUnsigned}
 use Rattle.std.proofs.lemmas.Bool.Decides.{same_from_decides, Decides-and, Decides-like, Decides-ltb}
-use Rattle.std.proofs.lemmas.Str.Parse.{IsNumeralModel, numerals_by_value, tells_all_ascii_digits, parse_plain}
-use Rattle.jdwp_plan.specs.Forms as forms
-use Rattle.jdwp_plan.specs.Lines.{number_of}
+use Rattle.std.proofs.lemmas.Str.Parse.{numerals_by_value, tells_all_ascii_digits, parse_plain}
+use Rattle.jdwp_plan.specs.Cuts.{number_of}
 
 abbrev IsNumber : ℕ → List ℕ → Type 0
 IsNumber limit text = (all_ascii_digits text ≡ true) × (0 < length text) × (digits_value 10 text < limit)
@@ -30,24 +29,3 @@ as_number text limit (Err e) h =
 -- what `parse` reads of a text that no plus begins
 pub parsed : {E : Type 0} (k : ℕ) (text : List ℕ) (r : Result ℕ E) → ParsesUnsigned k 10 text r → get_or text 0 0 ≢ 43 → result_ok r ≡ number_of (2 ^ k) text
 parsed k text r h plain = as_number text (2 ^ k) r (parse_plain (numerals_by_value (λ ds. all_ascii_digits ds ≡ true) tells_all_ascii_digits) k text r h plain)
-
--- ---- by their digits
-
-own : IsNumeralModel (λ ds. all_ascii_digits ds ≡ true) (digits_value 10)
-own = numerals_by_value (λ ds. all_ascii_digits ds ≡ true) tells_all_ascii_digits
-
-some_when : (b : Bool) (v n : ℕ) → cond b (Some v) None ≡ Some n → (b ≡ true) × (v ≡ n)
-some_when true v n h = (refl, cc)
-some_when false v n h = absurd (cc)
-
-pub number_of-digits : (limit : ℕ) (digits : List ℕ) (number : ℕ) → forms.IsNumber limit digits number → number_of limit digits ≡ Some number
-number_of-digits limit digits number h =
-    let below : digits_value 10 digits < limit = omega (arith, h.1, h.2) in
-    let yes : all_ascii_digits digits && (nat_lt 0 (length digits) && nat_lt (digits_value 10 digits) limit) ≡ true = (tells_number digits limit).1 (own.from digits h.0.1, h.0.0, below) in
-    rw yes (ap (λ (n : ℕ). Some n) h.1)
-
-pub digits-number_of : (limit : ℕ) (digits : List ℕ) (number : ℕ) → number_of limit digits ≡ Some number → forms.IsNumber limit digits number
-digits-number_of limit digits number h =
-    let both = some_when (all_ascii_digits digits && (nat_lt 0 (length digits) && nat_lt (digits_value 10 digits) limit)) (digits_value 10 digits) number h in
-    let is = (tells_number digits limit).0 both.0 in
-    ((is.1, own.to digits is.0), both.1, rw both.1 at is.2)

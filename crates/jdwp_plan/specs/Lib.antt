@@ -1,4 +1,10 @@
-pub mod Forms
+pub mod Commands
+pub mod Cuts
+pub mod Expecting
+pub mod Filling
+pub mod Items
 pub mod Lines
-pub mod PlanLines
+pub mod Meanings
+pub mod Names
 pub mod Plans
+pub mod Quotes

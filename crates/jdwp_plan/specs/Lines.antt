@@ -1,121 +1,126 @@
--- The lines of a plan as texts, and what they say.
-use Rattle.std.specs.Prelude.{ℕ, ◌==◌, ◌^◌, ◌&&◌, Bool, true, false, nat_lt, List, [], ◌∷◌, length, Option, Some, None, Result, Ok, Err, codes, if◌then◌else◌}
-use Rattle.std.specs.List.{slice_split, list_any}
-use Rattle.std.specs.Str.{bytes_eq, all_ascii_digits}
-use Rattle.std.specs.Str.Parse.{digits_value}
-use Rattle.hex.specs.declared.error.FromHexError.{FromHexError}
-use Rattle.hex.specs.declared.error.FromHexError.TheVariants as unhex
-use Rattle.hex.specs.Hex.{decode_of}
-use Rattle.jdwp_plan.specs.declared.plan_fault.LineFault.{LineFault}
-use Rattle.jdwp_plan.specs.declared.plan_fault.LineFault.TheVariants.{Blank, Spacing, FirstWord, WordCount, Set, Number, OddDigits, Digits, Count, End, PairAlone}
+-- The lines of a plan: what one says, or where it goes wrong, by how many bytes of it follow, and what was expected there.
+use Rattle.std.specs.Prelude.{ℕ, ◌==◌, ◌||◌, ◌^◌, Bool, List, [], ◌∷◌, length, slice_index, Option, Some, None, Result, Ok, Err, if◌then◌else◌, codes}
+use Rattle.std.specs.Str.{bytes_eq}
+use Rattle.jdwp_plan.specs.declared.plan_fault.Expected.{Expected}
+use Rattle.jdwp_plan.specs.declared.plan_fault.Expected.TheVariants as want
+use Rattle.jdwp_plan.specs.declared.plan_fault.Stop.{Stop}
+use Rattle.jdwp_plan.specs.declared.plan_line.Path.{Path}
+use Rattle.jdwp_plan.specs.declared.plan_line.Path.TheVariants.{Item, Entry, EntryOf}
+use Rattle.jdwp_plan.specs.Cuts.{behind, front, number_of}
+use Rattle.jdwp_plan.specs.Names.{is_name}
 
--- What a line says: to ask a command of a set with these bytes as data, to wait for what was asked, to wait for so many events, to
--- tell what is known; and of `pair` alone, that the target loses the connection, that the debugger does, and that a new session begins.
+-- What a line says: nothing; the version of the plan; to ask the command of a name, with this behind the name; to bind a name to the
+-- item at a path; that a text is expected, that a thread is held, that it is free; how many milliseconds a wait may take; to wait for so many composites, or for
+-- the next one; to tell what is known; that the session may end before the plan does.
 pub data Said : Type 0 where
-  Ask : ℕ → ℕ → List ℕ → Said
-  Answers : Said
+  Nothing : Said
+  Version : Said
+  Ask : List ℕ → Option (List ℕ) → Said
+  Let : List ℕ → Path → Said
+  Expect : List ℕ → Said
+  ExpectHeld : List ℕ → Said
+  ExpectFree : List ℕ → Said
+  Timeout : ℕ → Said
   Events : ℕ → Said
+  WaitEvent : Said
   Mirror : Said
-  LoseTarget : Said
-  LoseDebugger : Said
-  Attach : Said
+  MayEnd : Said
 
--- `pair` alone carries it out
-abbrev pub is_of_pair : Said → Bool
-is_of_pair LoseTarget = true
-is_of_pair LoseDebugger = true
-is_of_pair Attach = true
-is_of_pair other = false
+abbrev pub stop : {X : Type 0} → ℕ → Expected → Result X Stop
+stop left expected = Err (record { left = left; expected = expected })
 
--- ---- words
+-- what comes of what stands there, or where it goes wrong
+abbrev pub and_then : {X Y : Type 0} → (X → Result Y Stop) → Result X Stop → Result Y Stop
+and_then f (Ok x) = f x
+and_then f (Err s) = Err s
 
-abbrev pub is_empty : List ℕ → Bool
-is_empty text = length text == 0
+abbrev pub saying : {X : Type 0} → (X → Said) → Result X Stop → Result Said Stop
+saying f r = and_then (λ x. Ok (f x)) r
 
--- what stands between the spaces of a line
-abbrev pub words_of : List ℕ → List (List ℕ)
-words_of line = slice_split (λ byte. byte == 32) line
+-- ---- parts
 
--- a number below the limit in decimal: digits alone, at least one
-abbrev pub number_of : ℕ → List ℕ → Option ℕ
-number_of limit word =
-    if all_ascii_digits word && (nat_lt 0 (length word) && nat_lt (digits_value 10 word) limit) then Some (digits_value 10 word) else None
+-- what stands behind a word and a space
+abbrev pub needed : Option (List ℕ) → Result (List ℕ) Stop
+needed None = stop 0 want.Space
+needed (Some rest) = Ok rest
 
--- the bytes of hex digits
-abbrev pub data_by : Result (List ℕ) FromHexError → Result (List ℕ) LineFault
-data_by (Ok bytes) = Ok bytes
-data_by (Err unhex.OddLength) = Err OddDigits
-data_by (Err (unhex.InvalidHexCharacter c index)) = Err Digits
-data_by (Err unhex.InvalidStringLength) = Err Digits
-data_by (Err unhex.OutOfMemory) = Err Digits
+abbrev pub number_by : List ℕ → Expected → Option ℕ → Result ℕ Stop
+number_by text expected None = stop (length text) expected
+number_by text expected (Some number) = Ok number
 
-abbrev pub data_of : List ℕ → Result (List ℕ) LineFault
-data_of digits = data_by (decode_of digits)
+abbrev pub needed_number : Option (List ℕ) → Result ℕ Stop
+needed_number rest = and_then (λ text. number_by text want.Number (number_of (2 ^ 32) text)) (needed rest)
+
+-- the second of two words
+abbrev pub second : Option (List ℕ) → List ℕ → Expected → Said → Result Said Stop
+second rest word expected said = and_then (λ text. if bytes_eq text word then Ok said else stop (length text) expected) (needed rest)
+
+-- ---- paths
+
+-- a number of a path, in front of what is left
+abbrev pub path_number : List ℕ → List ℕ → Result ℕ Stop
+path_number text left = number_by left want.Path (number_of (2 ^ 32) text)
+
+abbrev pub third : ℕ → ℕ → Option (List ℕ) → Result Path Stop
+third one two None = Ok (Entry one two)
+third one two (Some rest) = and_then (λ three. Ok (EntryOf one two three)) (path_number rest rest)
+
+abbrev pub more : ℕ → Option (List ℕ) → Result Path Stop
+more one None = Ok (Item one)
+more one (Some rest) = and_then (λ two. third one two (behind 46 rest)) (path_number (front 46 rest) rest)
+
+-- N, N.N or N.N.N
+abbrev pub path : List ℕ → Result Path Stop
+path text = and_then (λ one. more one (behind 46 text)) (path_number (front 46 text) text)
+
+abbrev pub path_by : List ℕ → Option (List ℕ) → Result Path Stop
+path_by text None = stop (length text) want.Equals
+path_by text (Some rest) = if bytes_eq (front 32 text) (codes "=") then path rest else stop (length text) want.Equals
+
+-- `= PATH`
+abbrev pub path_behind_equals : List ℕ → Result Path Stop
+path_behind_equals text = path_by text (behind 32 text)
 
 -- ---- lines
 
--- `ask` by its set, its number and its data
-abbrev pub asked : Option ℕ → Option ℕ → Result (List ℕ) LineFault → Result Said LineFault
-asked None number bytes = Err Set
-asked (Some set) None bytes = Err Number
-asked (Some set) (Some number) (Err fault) = Err fault
-asked (Some set) (Some number) (Ok bytes) = Ok (Ask set number bytes)
+-- behind `ask`: NAME, or NAME DATA
+abbrev pub ask : List ℕ → Said
+ask rest = Ask (front 32 rest) (behind 32 rest)
 
--- SET NUMBER, or SET NUMBER HEX
-abbrev pub ask_by : List (List ℕ) → Result Said LineFault
-ask_by [] = Err WordCount
-ask_by (set ∷ []) = Err WordCount
-ask_by (set ∷ number ∷ []) = asked (number_of (2 ^ 8) set) (number_of (2 ^ 8) number) (Ok [])
-ask_by (set ∷ number ∷ digits ∷ []) = asked (number_of (2 ^ 8) set) (number_of (2 ^ 8) number) (data_of digits)
-ask_by (set ∷ number ∷ digits ∷ other ∷ others) = Err WordCount
+-- behind `let`: NAME = PATH
+abbrev pub binding : List ℕ → Result Said Stop
+binding rest =
+    if is_name (front 32 rest) then saying (Let (front 32 rest)) (and_then path_behind_equals (needed (behind 32 rest))) else stop (length rest) want.Name
 
--- nothing
-abbrev pub alone : Said → List (List ℕ) → Result Said LineFault
-alone said [] = Ok said
-alone said (other ∷ others) = Err WordCount
+-- behind `expect`: `held T`, `free T` or TEXT
+abbrev pub expect : List ℕ → Result Said Stop
+expect rest =
+    if length rest == 0 then stop 0 want.Text
+    else if bytes_eq (front 32 rest) (codes "held") then saying ExpectHeld (needed (behind 32 rest))
+    else if bytes_eq (front 32 rest) (codes "free") then saying ExpectFree (needed (behind 32 rest))
+    else Ok (Expect rest)
 
-abbrev pub waited : Option ℕ → Result Said LineFault
-waited None = Err Count
-waited (Some count) = Ok (Events count)
+-- behind `mirror`: nothing
+abbrev pub alone : Option (List ℕ) → Result Said Stop
+alone None = Ok Mirror
+alone (Some rest) = stop (length rest) want.End
 
--- N
-abbrev pub events_by : List (List ℕ) → Result Said LineFault
-events_by [] = Err WordCount
-events_by (count ∷ []) = waited (number_of (2 ^ 32) count)
-events_by (count ∷ other ∷ others) = Err WordCount
+-- a line of so many bytes by its first word and what stands behind that
+abbrev pub by_word : ℕ → List ℕ → Option (List ℕ) → Result Said Stop
+by_word left word rest =
+    if bytes_eq word (codes "mirror") then alone rest
+    else if bytes_eq word (codes "ask") then saying ask (needed rest)
+    else if bytes_eq word (codes "let") then and_then binding (needed rest)
+    else if bytes_eq word (codes "expect") then and_then expect (needed rest)
+    else if bytes_eq word (codes "timeout") then saying Timeout (needed_number rest)
+    else if bytes_eq word (codes "events") then saying Events (needed_number rest)
+    else if bytes_eq word (codes "wait") then second rest (codes "event") want.Event WaitEvent
+    else if bytes_eq word (codes "may") then second rest (codes "end") want.MayEnd MayEnd
+    else if bytes_eq word (codes "plan") then second rest (codes "2") want.Version Version
+    else stop left want.Word
 
--- `target` or `debugger`
-abbrev pub lose_by : List (List ℕ) → Result Said LineFault
-lose_by [] = Err WordCount
-lose_by (end ∷ []) =
-    if bytes_eq end (codes "target") then Ok LoseTarget
-    else if bytes_eq end (codes "debugger") then Ok LoseDebugger
-    else Err End
-lose_by (end ∷ other ∷ others) = Err WordCount
-
--- a line by its words
-abbrev pub line_by : List (List ℕ) → Result Said LineFault
-line_by [] = Err FirstWord
-line_by (first ∷ others) =
-    if bytes_eq first (codes "ask") then ask_by others
-    else if bytes_eq first (codes "answers") then alone Answers others
-    else if bytes_eq first (codes "events") then events_by others
-    else if bytes_eq first (codes "mirror") then alone Mirror others
-    else if bytes_eq first (codes "lose") then lose_by others
-    else if bytes_eq first (codes "attach") then alone Attach others
-    else Err FirstWord
-
--- what a line says, or what is wrong with it
-abbrev pub line_of : List ℕ → Result Said LineFault
-line_of line = if is_empty line then Err Blank else if list_any is_empty (words_of line) then Err Spacing else line_by (words_of line)
-
--- ---- in a plan of `attach`
-
--- what is read as this, but for a line of `pair` alone
-abbrev pub for_attach : Result Said LineFault → Result Said LineFault
-for_attach (Ok said) = if is_of_pair said then Err PairAlone else Ok said
-for_attach (Err fault) = Err fault
-
--- what a line of a plan of `attach` says, or what is wrong with it
-abbrev pub attach_line_of : List ℕ → Result Said LineFault
-attach_line_of line = for_attach (line_of line)
+-- a line, which says nothing where it is empty or begins with `#`
+abbrev pub line_of : List ℕ → Result Said Stop
+line_of line =
+    if (length line == 0) || (slice_index line 0 == 35) then Ok Nothing
+    else by_word (length line) (front 32 line) (behind 32 line)

@@ -1,42 +1,60 @@
 -- Plans: lists of lines.
-use Rattle.std.specs.Prelude.{◌≡◌, ◌⊎◌, ℕ, ◌+◌, false, List, ◌∷◌, ◌++◌, length, map, Result, Ok, Err}
-use Rattle.jdwp_plan.specs.declared.plan_fault.LineFault.{LineFault}
+use Rattle.std.specs.Prelude.{◌≡◌, ◌⊎◌, ℕ, ◌+◌, ◌-◌, Bool, false, List, [], ◌∷◌, ◌++◌, length, map, Option, Result, Ok, Err, codes}
+use Rattle.std.specs.Str.{bytes_eq}
+use Rattle.jdwp_plan.specs.declared.plan_fault.Expected.{Expected}
+use Rattle.jdwp_plan.specs.declared.plan_fault.Expected.TheVariants.{Command}
 use Rattle.jdwp_plan.specs.declared.plan_fault.PlanFault.{PlanFault}
-use Rattle.jdwp_plan.specs.declared.plan_fault.PlanFault.TheVariants.{Line, NoMemory}
-use Rattle.jdwp_plan.specs.Lines.{Said, attach_line_of, is_empty, line_of}
+use Rattle.jdwp_plan.specs.declared.plan_fault.PlanFault.TheVariants as fault
+use Rattle.jdwp_plan.specs.declared.plan_fault.Refusal.{Refusal}
+use Rattle.jdwp_plan.specs.declared.plan_fault.Refusal.TheVariants as refusal
+use Rattle.jdwp_plan.specs.declared.plan_fault.Stop.{Stop}
+use Rattle.jdwp_plan.specs.declared.plan_line.PlanLine.{PlanLine}
+use Rattle.jdwp_plan.specs.Commands.{HasNo}
+use Rattle.jdwp_plan.specs.Lines.{Said, line_of, stop}
+use Rattle.jdwp_plan.specs.Lines.Said.{Ask}
+use Rattle.jdwp_plan.specs.Meanings.{said_by}
 
-abbrev pub read_well : Said → Result Said LineFault
+-- the first line is `plan 2`
+abbrev pub is_written : List (List ℕ) → Bool
+is_written [] = false
+is_written (line ∷ lines) = bytes_eq line (codes "plan 2")
+
+abbrev pub read_well : Said → Result Said Stop
 read_well said = Ok said
 
--- Each line says this, by what a line says.
-abbrev pub SaysBy : (List ℕ → Result Said LineFault) → List (List ℕ) → List Said → Type 0
-SaysBy says lines plan = map says lines ≡ map read_well plan
-
--- The fault is that of the first line that has one, by what a line says: the lines before it say what they say. The first line has the
--- number 1. Memory may be wanting at a line that is not empty, before which no line has a fault.
-abbrev pub IsFirstFaultBy : (List ℕ → Result Said LineFault) → List (List ℕ) → PlanFault → Type 0
-IsFirstFaultBy says lines (Line number fault) =
-    (before : List Said) × (after : List (Result Said LineFault)) × (map says lines ≡ map read_well before ++ Err fault ∷ after)
-    × (number ≡ length before + 1)
-IsFirstFaultBy says lines NoMemory =
-    (before : List Said) × (line : List ℕ) × (after : List (Result Said LineFault)) × (map says lines ≡ map read_well before ++ says line ∷ after)
-    × (is_empty line ≡ false)
-
--- each line of a plan says this
+-- each line says this
 abbrev pub Says : List (List ℕ) → List Said → Type 0
-Says lines plan = SaysBy line_of lines plan
+Says lines plan = map line_of lines ≡ map read_well plan
 
--- the fault of the first line that is none of a plan
+-- a line asks a command of a name that none has
+abbrev pub AsksNone : List ℕ → Type 0
+AsksNone line = (name : List ℕ) × (text : Option (List ℕ)) × (line_of line ≡ Ok (Ask name text)) × HasNo name
+
+-- A line goes wrong here, where this was expected; the name of a command stands behind `ask `.
+abbrev pub GoesWrong : List ℕ → ℕ → Expected → Type 0
+GoesWrong line place expected =
+    ((left : ℕ) × (line_of line ≡ stop left expected) × (place ≡ length line - left)) ⊎ (AsksNone line × (place ≡ 4) × (expected ≡ Command))
+
+-- these lines say this, and then comes this line
+abbrev pub ComesBehind : List (List ℕ) → List Said → List ℕ → Type 0
+ComesBehind lines before line = (after : List (Result Said Stop)) × (map line_of lines ≡ map read_well before ++ line_of line ∷ after)
+
+-- The fault is that of the first line that has one: the lines before it say what they say. The first line has the number 1. Memory may be
+-- wanting at a line before which no line has a fault.
 abbrev pub IsFirstFault : List (List ℕ) → PlanFault → Type 0
-IsFirstFault lines fault = IsFirstFaultBy line_of lines fault
+IsFirstFault lines (fault.Line number place expected) =
+    (before : List Said) × (line : List ℕ) × ComesBehind lines before line × (number ≡ length before + 1) × GoesWrong line place expected
+IsFirstFault lines fault.NoMemory = (before : List Said) × (line : List ℕ) × ComesBehind lines before line
 
--- the same of a plan of `attach`, of which no line is of `pair` alone
-abbrev pub SaysForAttach : List (List ℕ) → List Said → Type 0
-SaysForAttach lines plan = SaysBy attach_line_of lines plan
+-- what was read of a line; want of memory says nothing
+abbrev pub ReadsLine : List ℕ → Result PlanLine Refusal → Type 0
+ReadsLine line (Ok read) = line_of line ≡ Ok (said_by read)
+ReadsLine line (Err (refusal.Stop s)) = line_of line ≡ Err s
+ReadsLine line (Err refusal.NoCommand) = AsksNone line
+ReadsLine line (Err refusal.NoMemory) = Unit {0}
 
-abbrev pub IsFirstFaultForAttach : List (List ℕ) → PlanFault → Type 0
-IsFirstFaultForAttach lines fault = IsFirstFaultBy attach_line_of lines fault
-
--- Why no session began by a plan of `attach`: its first fault; or memory was wanting, also for a session by a plan that reads.
-abbrev pub BeginsNoSession : List (List ℕ) → PlanFault → Type 0
-BeginsNoSession lines fault = IsFirstFaultForAttach lines fault ⊎ ((fault ≡ NoMemory) × (plan : List Said) × SaysForAttach lines plan)
+-- why a line has no own form: it asks a command of a name that none has, or memory was wanting
+abbrev pub IsNoCommand : Said → Refusal → Type 0
+IsNoCommand (Ask name text) refusal.NoCommand = HasNo name
+IsNoCommand said refusal.NoMemory = Unit {0}
+IsNoCommand said refusal = ⊥

@@ -6,60 +6,77 @@ ghost use Rattle.jdwp_plan.specs.declared.plan_fault.Refusal.TheVariants as refu
 use std::alloc::{AllocError, AllocFailed};
 use thiserror::Error;
 
-/// What is wrong with a line of a plan: the first of these that is, in this order.
+/// What is to stand at a place of a line.
 #[derive(Clone, Copy, Debug, PartialEq, Eq, Error)]
-pub enum LineFault {
-    /// It is empty.
-    #[error("an empty line")]
-    Blank,
-    /// Two spaces stand side by side, or one stands before the first word or behind the last.
-    #[error("words that are not parted by one space each")]
-    Spacing,
-    /// Its first word is not `ask`, `answers`, `events`, `mirror`, `lose` or `attach`.
-    #[error("a first word that is not `ask`, `answers`, `events`, `mirror`, `lose` or `attach`")]
-    FirstWord,
-    /// More or fewer words follow the first than in `ask SET NUMBER`, `ask SET NUMBER HEX`, `answers`, `events N`, `mirror`, `lose target`,
-    /// `lose debugger` and `attach`.
-    #[error("no line `ask SET NUMBER`, `ask SET NUMBER HEX`, `answers`, `events N`, `mirror`, `lose target`, `lose debugger` or `attach`")]
-    WordCount,
-    /// The command set of `ask` is not a number from 0 to 255.
-    #[error("a command set that is not a number from 0 to 255")]
-    Set,
-    /// The command of `ask` is not a number from 0 to 255.
-    #[error("a command that is not a number from 0 to 255")]
+pub enum Expected {
+    /// The first word of a line.
+    #[error("`ask`, `let`, `expect`, `timeout`, `events`, `wait event`, `mirror` or `may end`")]
+    Word,
+    /// The first line of a plan.
+    #[error("`plan 2`")]
+    Version,
+    /// The space before what a word is to be followed by.
+    #[error("a space, and what belongs behind it")]
+    Space,
+    /// The name of a command.
+    #[error("the name of a command, as VirtualMachine.Version")]
+    Command,
+    /// The name of a value.
+    #[error("a name of letters, digits and `_`")]
+    Name,
+    /// What stands between a name and a path.
+    #[error("`=` between two spaces, and a path")]
+    Equals,
+    /// A number of a path.
+    #[error("a path of one to three numbers with dots between them, as 0.1")]
+    Path,
+    /// The text that is expected.
+    #[error("a text")]
+    Text,
+    /// A number.
+    #[error("a number from 0 to 4294967295")]
     Number,
-    /// The data of `ask` have an odd number of digits.
-    #[error("data of an odd number of hex digits")]
-    OddDigits,
-    /// The data of `ask` have something else than hex digits.
-    #[error("data that are not hex digits")]
-    Digits,
-    /// What `events` waits for is not a number below 2^32.
-    #[error("a number of events that is not a number below 4294967296")]
-    Count,
-    /// What `lose` names is not `target` or `debugger`.
-    #[error("an end that is not `target` or `debugger`")]
+    /// What is waited for.
+    #[error("`event`")]
+    Event,
+    /// What may be.
+    #[error("`end`")]
+    MayEnd,
+    /// The end of the line.
+    #[error("the end of the line")]
     End,
-    /// It is a line of `pair` alone, in a plan of `attach`.
-    #[error("a line of `pair` alone")]
-    PairAlone,
 }
 
 /// Why a plan is refused.
 #[derive(Clone, Copy, Debug, PartialEq, Eq, Error)]
 pub enum PlanFault {
-    /// The first line that is none of a plan: its number, from 1, and what is wrong with it.
-    #[error("line {0} of the plan: {1}")]
-    Line(usize, LineFault),
+    /// The first line that says nothing: its number, from 1, the byte of it, from 0, at which it goes wrong, and what was expected there.
+    #[error("line {line} of the plan: at byte {place}, counted from 0: expected {expected}")]
+    Line {
+        /// The line, counted from 1.
+        line: usize,
+        /// The byte of the line, counted from 0.
+        place: usize,
+        /// What was expected there.
+        expected: Expected,
+    },
     /// An allocation was refused.
     #[error("no memory")]
     NoMemory,
 }
 
+/// Where a line goes wrong, by how many bytes of it follow, and what was expected there.
+#[derive(Clone, Copy, Debug, PartialEq, Eq)]
+pub(crate) struct Stop {
+    pub left: usize,
+    pub expected: Expected,
+}
+
 /// Why a line was not read.
 #[derive(Clone, Copy)]
 pub(crate) enum Refusal {
-    Fault(LineFault),
+    Stop(Stop),
+    NoCommand,
     NoMemory,
 }
 
@@ -87,10 +104,10 @@ impl From<AllocError> for Refusal {
     }
 }
 
-impl From<LineFault> for Refusal {
-    ghost from_gives = { λ e f. f ≡ refusal.Fault e };
+impl From<Stop> for Refusal {
+    ghost from_gives = { λ e f. f ≡ refusal.Stop e };
 
-    fn from(fault: LineFault) -> Refusal {
-        Refusal::Fault(fault)
+    fn from(stop: Stop) -> Refusal {
+        Refusal::Stop(stop)
     }
 }

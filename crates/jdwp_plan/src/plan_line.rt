@@ -1,45 +1,53 @@
 //! The lines of a plan.
-ghost use Rattle.std.specs.Prelude.{◌≡◌};
+
+/// The place of an item in an answer or in a composite of events, counted from 0.
+#[derive(Clone, Copy, Debug, PartialEq, Eq)]
+pub enum Path {
+    /// `N`: the item N of the data, which is no list.
+    Item(u32),
+    /// `E.I`: of the first list of the data the entry E, and of that the item I. An element of an array region is an entry of one item.
+    Entry(u32, u32),
+    /// `N.E.I`: the same of the list that is the item N of the data.
+    EntryOf(u32, u32, u32),
+}
 
 /// What one line of a plan says.
 #[derive(Debug, Drop)]
 pub enum PlanLine {
-    /// `ask SET NUMBER`, or `ask SET NUMBER HEX`: a command is asked, and the run goes on at once.
+    /// An empty line, or one whose first character is `#`: nothing.
+    Nothing,
+    /// `plan 2`, the first line.
+    Version,
+    /// `ask NAME` or `ask NAME DATA`: the command is asked, and its answer waited for.
     Ask {
-        /// The command set, 0 to 255.
+        /// The command set of the command of this name.
         set: u8,
-        /// The command of the set, 0 to 255.
+        /// The number of the command of this name in its set.
         number: u8,
-        /// The data, as they stand in the packet. None where the line has no HEX. Whether they fit the command is not judged.
-        data: Vec<u8>,
+        /// The text of the data behind its space, with `$NAME` where a value stands. None where nothing stands behind the name.
+        data: Option<String>,
     },
-    /// `answers`: what was asked is answered before the run goes on.
-    Answers,
-    /// `events N`: so many events, below 2^32, were reported in the session before the run goes on.
+    /// `let NAME = PATH`: the item there is bound to the name.
+    Let {
+        /// Letters, digits and `_`.
+        name: String,
+        /// Where the item stands.
+        path: Path,
+    },
+    /// `expect TEXT`: what was told last is this, where `_` stands for any item.
+    Expect(String),
+    /// `expect held T`: the thread is held for suspended.
+    ExpectHeld(String),
+    /// `expect free T`: it is not.
+    ExpectFree(String),
+    /// `timeout MS`: how many milliseconds a wait may take.
+    Timeout(u32),
+    /// `events N`: so many composites came in the session before the run goes on.
     Events(u32),
+    /// `wait event`: the next composite that was not told yet.
+    WaitEvent,
     /// `mirror`: what the debugger knows is told.
     Mirror,
-    /// `lose target`: the target notices that the connection is lost. A line of `pair` alone.
-    LoseTarget,
-    /// `lose debugger`: the debugger notices that the connection is lost. A line of `pair` alone.
-    LoseDebugger,
-    /// `attach`: a new session begins. A line of `pair` alone.
-    Attach,
-}
-
-impl PlanLine {
-    ghost use Rattle.jdwp_plan.specs.Lines.{is_of_pair};
-    ghost use Rattle.jdwp_plan.specs.PlanLines.{said_by};
-
-    /// Whether `pair` alone carries the line out.
-    pub(crate) fn is_of_pair(&self) -> bool
-        ensures { result ≡ is_of_pair (said_by self.now) }
-    {
-        match self {
-            PlanLine::LoseTarget | PlanLine::LoseDebugger | PlanLine::Attach => true,
-            PlanLine::Ask { .. } | PlanLine::Answers | PlanLine::Events(_) | PlanLine::Mirror => {
-                false
-            }
-        }
-    }
+    /// `may end`: the session may end before the plan does.
+    MayEnd,
 }

@@ -1,43 +1,65 @@
-//! Numbers and data in a line.
-ghost use Rattle.std.specs.Prelude.{◌≡◌, ◌^◌};
-ghost use Rattle.jdwp_plan.specs.Lines.{number_of, data_of};
-ghost use Rattle.jdwp_plan.specs.PlanLines.{Gives, bytes_of};
+//! The values that lines bind.
+ghost use Rattle.std.specs.Prelude.{◌≡◌, ◌∷◌, [], OnOk, OnErr};
+ghost use Rattle.std.specs.Option.{option_map};
+ghost use Rattle.jdwp_plan.specs.Filling.{bindings, value_of};
 
-use crate::plan_fault::{LineFault, Refusal};
-use hex::FromHexError;
+use jdwp_wire::NoMemory;
 use std::alloc::Global;
+use std::marker::Model;
 
-/// A decimal number from 0 to 255, of digits alone.
-pub(crate) fn byte_number(text: &str) -> Option<u8>
-    ensures { result ≡ number_of (2 ^ 8) text.now }
-{
-    if text.as_bytes().first() == Some(&b'+') {
-        return None;
-    }
-    text.parse::<u8>().ok()
+/// Names, each with the text that is bound to it: the last one that was.
+#[derive(Debug, Drop)]
+pub struct Values {
+    bound: Vec<(Vec<u8>, Vec<u8>)>,
 }
 
-/// A decimal number below 2^32, of digits alone.
-pub(crate) fn word_number(text: &str) -> Option<u32>
-    ensures { result ≡ number_of (2 ^ 32) text.now }
-{
-    if text.as_bytes().first() == Some(&b'+') {
-        return None;
-    }
-    text.parse::<u32>().ok()
+impl Model for Values {
+    ghost use Rattle.std.specs.Prelude.{ℕ, List};
+    ghost use Rattle.jdwp_plan.specs.Filling.{bindings};
+
+    ghost Value = { List (List ℕ × List ℕ) };
+
+    ghost view = { λ v. bindings v.bound.items };
 }
 
-/// The bytes of hex digits.
-///
-/// # Errors
-/// `OddDigits` and `Digits`, or want of memory.
-pub(crate) fn data(alloc: Global, digits: &str) -> Result<Vec<u8>, Refusal>
-    ensures { Gives bytes_of result (data_of digits.now) }
-{
-    match hex::decode(alloc, digits.as_bytes()) {
-        Ok(bytes) => Ok(bytes),
-        Err(FromHexError::OutOfMemory) => Err(Refusal::NoMemory),
-        Err(FromHexError::OddLength) => Err(Refusal::Fault(LineFault::OddDigits)),
-        Err(_) => Err(Refusal::Fault(LineFault::Digits)),
+impl Values {
+    /// No names.
+    pub fn new(alloc: Global) -> Values
+        ensures { result ≡ [] }
+    {
+        Values {
+            bound: Vec::new(alloc),
+        }
     }
+
+    /// Binds a text to a name. What was bound to it before is no longer.
+    ///
+    /// # Errors
+    /// `NoMemory` where an allocation was refused; nothing has changed then.
+    pub fn bind(&mut self, name: Vec<u8>, text: Vec<u8>) -> Result<(), NoMemory>
+        ensures ok { OnOk result (self.new ≡ (name.items, text.items) ∷ self.old) }
+        ensures err { OnErr result (self.new ≡ self.old) }
+    {
+        self.bound.insert(0, (name, text))?;
+        Ok(())
+    }
+
+    /// The text that is bound to a name.
+    pub fn get(&self, name: &[u8]) -> Option<&[u8]>
+        ensures { option_map (λ t. t.now) result ≡ value_of name.now self.now }
+    {
+        look_up(&self.bound, name)
+    }
+}
+
+/// The text that is bound to a name first.
+fn look_up<'a>(bound: &'a [(Vec<u8>, Vec<u8>)], name: &[u8]) -> Option<&'a [u8]>
+    ensures { option_map (λ t. t.now) result ≡ value_of name.now (bindings bound.now) }
+{
+    for entry in bound {
+        if entry.0.as_slice() == name {
+            return Some(entry.1.as_slice());
+        }
+    }
+    None
 }

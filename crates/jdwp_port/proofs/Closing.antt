@@ -3,10 +3,10 @@ use Rattle.std.proofs.Common.{◌≡◌, ℕ, Bool, true, false, refl}
 use Rattle.jdwp_end.specs.Ends.{is_open}
 use Rattle.jdwp_machine.specs.Meanings.{Meaning}
 use Rattle.jdwp_target.specs.Targets.{Target}
-use Rattle.jdwp_pipe.specs.declared.ended.Ended.{Ended}
-use Rattle.jdwp_pipe.specs.declared.ended.Ended.TheVariants as ended
+use Rattle.jdwp_end.specs.declared.pipes.ended.Ended.{Ended}
+use Rattle.jdwp_end.specs.declared.pipes.ended.Ended.TheVariants as ended
 use Rattle.jdwp_engine.specs.Outcome.{IsLost, MayEnd}
-use Rattle.jdwp_pipe.specs.Story.{Story}
+use Rattle.jdwp_end.specs.Story.{Story}
 use Rattle.jdwp_port.specs.Served.{IsSession, goes_on}
 
 closed_by_loss : {S : Type 0} (m : Meaning S) (target : Target S) → IsLost m target → is_open target.end ≡ false

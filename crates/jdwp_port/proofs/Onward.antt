@@ -5,8 +5,8 @@ use Rattle.std.proofs.lemmas.Fn.{FoldsTo-push}
 use Rattle.jdwp_end.specs.Ends.{is_open}
 use Rattle.jdwp_machine.specs.Meanings.{Meaning}
 use Rattle.jdwp_target.specs.Targets.{Target, lost_target}
-use Rattle.jdwp_pipe.specs.declared.ended.Ended.{Ended}
-use Rattle.jdwp_pipe.specs.declared.ended.Ended.TheVariants as ended
+use Rattle.jdwp_end.specs.declared.pipes.ended.Ended.{Ended}
+use Rattle.jdwp_end.specs.declared.pipes.ended.Ended.TheVariants as ended
 use Rattle.jdwp_port.specs.declared.notices.Notice.{Notice}
 use Rattle.jdwp_port.specs.declared.notices.Notice.TheVariants.{Again}
 use Rattle.jdwp_port.specs.declared.serving.Happening.{Happening}

@@ -2,9 +2,9 @@
 use Rattle.std.specs.Prelude.{◌≡◌, ◌||◌, ℕ, Bool, true, false, List}
 use Rattle.jdwp_end.specs.Ends.{is_open}
 use Rattle.jdwp_debugger.specs.Debuggers.{Debugger, attached, has_tickets}
-use Rattle.jdwp_pipe.specs.declared.ended.Ended.TheVariants.{Refused}
-use Rattle.jdwp_pipe.specs.Story.{Story, empty_story}
-use Rattle.jdwp_plan.specs.declared.plan_line.PlanLine.{PlanLine}
+use Rattle.jdwp_end.specs.declared.pipes.ended.Ended.TheVariants.{Refused}
+use Rattle.jdwp_end.specs.Story.{Story, empty_story}
+use Rattle.jdwp_attach.specs.declared.plans.plan_line.PlanLine.{PlanLine}
 use Rattle.jdwp_attach.specs.declared.attached.Attached.{Attached}
 use Rattle.jdwp_attach.specs.declared.attached.Attached.TheVariants.{Ended}
 use Rattle.jdwp_attach.specs.PlanRuns.{Attaches, MayEnd, TellsRefused, ended_of}

@@ -1,7 +1,7 @@
 -- Sessions on connections.
 use Rattle.std.specs.Prelude.{◌≡◌, Bool, true, false, Option, is_some}
-use Rattle.jdwp_pipe.specs.declared.ended.Ended.{Ended}
-use Rattle.jdwp_pipe.specs.declared.ended.Ended.TheVariants.{Done, LostByRead, LostByWrite, Refused, NoMemory, TurnLimit}
+use Rattle.jdwp_end.specs.declared.pipes.ended.Ended.{Ended}
+use Rattle.jdwp_end.specs.declared.pipes.ended.Ended.TheVariants.{Done, LostByRead, LostByWrite, Refused, NoMemory, TurnLimit}
 use Rattle.jdwp_port.specs.declared.faults.PortCause.{PortCause}
 
 -- a session that ended so was lost

@@ -1,7 +1,7 @@
 -- What is told of sessions at a port.
 use Rattle.std.specs.Prelude.{ℕ, List, [], ◌∷◌, ◌++◌, Option, Some, None}
-use Rattle.jdwp_pipe.specs.declared.ended.Ended.{Ended}
-use Rattle.jdwp_pipe.specs.declared.ended.Ended.TheVariants.{Done, LostByRead, LostByWrite, Refused, NoMemory, TurnLimit}
+use Rattle.jdwp_end.specs.declared.pipes.ended.Ended.{Ended}
+use Rattle.jdwp_end.specs.declared.pipes.ended.Ended.TheVariants.{Done, LostByRead, LostByWrite, Refused, NoMemory, TurnLimit}
 use Rattle.jdwp_port.specs.declared.faults.PortCause.{PortCause}
 use Rattle.jdwp_port.specs.declared.notices.Notice.{Notice}
 use Rattle.jdwp_port.specs.declared.notices.Notice.TheVariants as notice

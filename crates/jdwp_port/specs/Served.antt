@@ -4,12 +4,12 @@ use Rattle.std.specs.List.{FoldsTo}
 use Rattle.jdwp_end.specs.Ends.{is_open}
 use Rattle.jdwp_machine.specs.Meanings.{Meaning}
 use Rattle.jdwp_target.specs.Targets.{Target, Ran, lost_target, opened_target}
-use Rattle.jdwp_pipe.specs.declared.ended.Ended.{Ended}
-use Rattle.jdwp_pipe.specs.declared.ended.Ended.TheVariants.{Done, LostByRead, LostByWrite, Refused, NoMemory, TurnLimit}
+use Rattle.jdwp_end.specs.declared.pipes.ended.Ended.{Ended}
+use Rattle.jdwp_end.specs.declared.pipes.ended.Ended.TheVariants.{Done, LostByRead, LostByWrite, Refused, NoMemory, TurnLimit}
 use Rattle.jdwp_engine.specs.Outcome.{MayEnd}
 use Rattle.jdwp_engine.specs.Run.{InOrder, cost}
 use Rattle.jdwp_engine.specs.Sessions as engine
-use Rattle.jdwp_pipe.specs.Story.{Story, empty_story}
+use Rattle.jdwp_end.specs.Story.{Story, empty_story}
 use Rattle.jdwp_port.specs.declared.connection.AtPort.{AtPort}
 use Rattle.jdwp_port.specs.declared.faults.PortCause.{PortCause}
 use Rattle.jdwp_port.specs.declared.faults.PortFault.{PortFault}

@@ -7,10 +7,9 @@ ghost use Rattle.jdwp_port.specs.Faults.{IsOf};
 
 use crate::connection::{AtPort, address, close, halves};
 use crate::faults::PortFault;
-use jdwp_attach::{Attached, attach_by_lines};
+use jdwp_attach::{Attached, PlanLine, attach_by_lines};
 use jdwp_debugger::Debugger;
-use jdwp_pipe::Pipe;
-use jdwp_plan::PlanLine;
+use jdwp_end::Pipe;
 use std::alloc::Global;
 use std::io::{Read, Write};
 use std::net::{Net, OpenStream};

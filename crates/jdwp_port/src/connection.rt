@@ -1,13 +1,13 @@
 //! A connection as a pipe, and its end.
 ghost use Rattle.std.specs.Prelude.{◌≡◌, ◌≤◌, IfOk};
 ghost use Rattle.std.specs.Duration.{as_nanos};
-ghost use Rattle.jdwp_pipe.specs.Streams.{story_of};
-ghost use Rattle.jdwp_pipe.specs.Story.{empty_story};
+ghost use Rattle.jdwp_end.specs.Streams.{story_of};
+ghost use Rattle.jdwp_end.specs.Story.{empty_story};
 ghost use Rattle.jdwp_port.specs.Connections.{FailsOnlyLost};
 
 use crate::faults::PortCause;
 use crate::watching::Watched;
-use jdwp_pipe::{Ended, Streams};
+use jdwp_end::{Ended, Streams};
 use std::alloc::Global;
 use std::io;
 use std::io::{BufWriter, ErrorKind, Read, Write};

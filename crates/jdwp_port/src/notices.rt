@@ -4,7 +4,7 @@ ghost use Rattle.jdwp_port.specs.Notices.{notice_of};
 
 use crate::connection::AtPort;
 use crate::faults::PortCause;
-use jdwp_pipe::Ended;
+use jdwp_end::Ended;
 
 /// What a server at a port tells, and goes on.
 #[derive(Clone, Copy, Debug)]

@@ -1,8 +1,8 @@
 //! Sessions of a target on a port.
 ghost use Rattle.std.specs.Prelude.{◌≡◌, true, false, IfErr, IfOk, OnErr};
 ghost use Rattle.jdwp_end.specs.Ends.{is_open};
-ghost use Rattle.jdwp_pipe.specs.Streams.{story_of};
-ghost use Rattle.jdwp_pipe.specs.Story.{empty_story};
+ghost use Rattle.jdwp_end.specs.Streams.{story_of};
+ghost use Rattle.jdwp_end.specs.Story.{empty_story};
 ghost use Rattle.jdwp_port.specs.Connections.{FailsOnlyLost};
 ghost use Rattle.jdwp_port.specs.Faults.{IsOf};
 ghost use Rattle.jdwp_port.specs.Listeners.{port_of};
@@ -12,9 +12,9 @@ use crate::connection::{AtPort, Halves, close, halves};
 use crate::faults::{PortCause, PortFault};
 use crate::listening::{PortListener, Taken, may_pass, pause};
 use crate::notices::{Notice, notice_of};
+use jdwp_end::Ended;
 use jdwp_engine::serve;
 use jdwp_machine::Machine;
-use jdwp_pipe::Ended;
 use jdwp_target::Target;
 use std::alloc::Global;
 use std::io;

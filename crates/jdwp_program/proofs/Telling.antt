@@ -42,6 +42,6 @@ leaves_version old new (Err NoMemory) tells = inl tells
 
 -- of the line of a port
 pub leaves_listened : (port : ℕ) (old new : Option (List ℕ)) (result : Result (Unit {0}) TellFault) → TellsListening port old new result → LeavesListened result old new
-leaves_listened port old new (Ok done) tells = λ status. inr (inr (inr (port, inl tells)))
-leaves_listened port old new (Err (Output error)) tells = inr (inr (inr (port, inr (refl, tells))))
+leaves_listened port old new (Ok done) tells = λ status. inr (inr (inr (inl (port, inl tells))))
+leaves_listened port old new (Err (Output error)) tells = inr (inr (inr (inl (port, inr (refl, tells)))))
 leaves_listened port old new (Err NoMemory) tells = inl tells

@@ -2,8 +2,8 @@
 use Rattle.std.proofs.Common.{◌≡◌, ◌≤◌, ℕ, suc, List, Some, length, map, refl}
 use Rattle.std.specs.List.{slice_get}
 use Rattle.std.proofs.lemmas.Option.{slice_get-map, slice_get_past}
-use Rattle.jdwp_plan.specs.PlanLines.{said_by}
-use Rattle.jdwp_plan.specs.declared.plan_line.PlanLine.{PlanLine}
+use Rattle.jdwp_attach.specs.PlanLines.{said_by}
+use Rattle.jdwp_attach.specs.declared.plans.plan_line.PlanLine.{PlanLine}
 use Rattle.jdwp_program.specs.Awaiting.{awaited_at, awaited_by}
 use Rattle.jdwp_program.specs.declared.awaiting.Awaited.TheVariants as awaited
 

@@ -1,8 +1,8 @@
 -- What a plan waits for that stands still.
 use Rattle.std.specs.Prelude.{ℕ, zero, suc, List, Option, None, Some}
 use Rattle.std.specs.List.{slice_get}
-use Rattle.jdwp_plan.specs.Lines.{Said}
-use Rattle.jdwp_plan.specs.Lines.Said.{Ask, Answers, Events, Mirror, LoseTarget, LoseDebugger, Attach}
+use Rattle.jdwp_attach.specs.Lines.{Said}
+use Rattle.jdwp_attach.specs.Lines.Said.{Ask, Answers, Events, Mirror, LoseTarget, LoseDebugger, Attach}
 use Rattle.jdwp_program.specs.declared.awaiting.Awaited.{Awaited}
 use Rattle.jdwp_program.specs.declared.awaiting.Awaited.TheVariants as awaited
 

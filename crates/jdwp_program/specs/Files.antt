@@ -8,16 +8,18 @@ use Rattle.std.specs.declared.io.ErrorKind.TheVariants as kind
 use Rattle.jdwp_script.specs.declared.detail.Detail.{Detail}
 use Rattle.jdwp_script.specs.declared.fault.ScriptFault.{ScriptFault}
 use Rattle.jdwp_script.specs.declared.fault.ScriptFault.TheVariants as script
-use Rattle.jdwp_plan.specs.declared.plan_fault.PlanFault.{PlanFault}
-use Rattle.jdwp_plan.specs.declared.plan_fault.PlanFault.TheVariants as plan
+use Rattle.jdwp_attach.specs.declared.plans.plan_fault.PlanFault.{PlanFault}
+use Rattle.jdwp_attach.specs.declared.plans.plan_fault.PlanFault.TheVariants as plan
 use Rattle.jdwp_port.specs.declared.faults.PortFault.{PortFault}
 use Rattle.jdwp_port.specs.declared.faults.PortFault.TheVariants as port
+use Rattle.jdwp_recording.specs.declared.recording_fault.RecordingFault.{RecordingFault}
+use Rattle.jdwp_recording.specs.declared.recording_fault.RecordingFault.TheVariants as recording
 use Rattle.jdwp_program.specs.declared.captures.TellFault.{TellFault}
 use Rattle.jdwp_program.specs.declared.captures.TellFault.TheVariants as telling
 use Rattle.jdwp_program.specs.declared.fault.Fault.{Fault}
 use Rattle.jdwp_program.specs.declared.fault.Fault.TheVariants as fault
 use Rattle.jdwp_program.specs.declared.fault.FileCause.{FileCause}
-use Rattle.jdwp_program.specs.declared.fault.FileCause.TheVariants.{Absent, NotAllowed, Folder, NotUtf8, Recording, ByteOrderMark, AlsoRead, Other}
+use Rattle.jdwp_program.specs.declared.fault.FileCause.TheVariants.{Absent, NotAllowed, Folder, NotUtf8, ByteOrderMark, AlsoRead, Other}
 
 -- the cause that this error of the system is
 abbrev pub IsCauseOf : Error → FileCause → Type 0
@@ -25,7 +27,6 @@ IsCauseOf error Absent = error_kind error ≡ kind.NotFound
 IsCauseOf error NotAllowed = error_kind error ≡ kind.PermissionDenied
 IsCauseOf error Folder = error_kind error ≡ kind.IsADirectory
 IsCauseOf error (NotUtf8 place) = ⊥
-IsCauseOf error Recording = ⊥
 IsCauseOf error ByteOrderMark = ⊥
 IsCauseOf error AlsoRead = ⊥
 IsCauseOf error (Other other) = (other ≡ error) × (error_kind error ≢ kind.NotFound) × (error_kind error ≢ kind.PermissionDenied) × (error_kind error ≢ kind.IsADirectory)
@@ -55,6 +56,11 @@ fault_of_port port.NoMemory = fault.NoMemory
 abbrev pub fault_of_script : Bor (List ℕ) → ScriptFault → Detail → Fault
 fault_of_script path script.NoMemory detail = fault.NoMemory
 fault_of_script path other detail = fault.Script path other detail
+
+-- what is told of the fault of a recording in a file of this name: want of memory alone, or the fault
+abbrev pub fault_of_recording : Bor (List ℕ) → RecordingFault → Fault
+fault_of_recording path recording.NoMemory = fault.NoMemory
+fault_of_recording path other = fault.Recording path other
 
 -- The first four bytes of a recording of the network: of pcap, written by a machine of either order of bytes, with times in microseconds or in
 -- nanoseconds, and of pcapng.

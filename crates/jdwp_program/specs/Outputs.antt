@@ -1,5 +1,5 @@
 -- What a run of the program leaves on its standard output.
-use Rattle.std.specs.Prelude.{◌≡◌, ◌⊎◌, ℕ, List, Option, Some, None, Result, MatchResult}
+use Rattle.std.specs.Prelude.{◌≡◌, ◌≤◌, ◌⊎◌, ℕ, List, Option, Some, None, Result, MatchResult}
 use Rattle.std.specs.Io.KnownBytes.{Appends, Keeps}
 use Rattle.jdwp_show.specs.declared.capture_fault.CaptureFault.{CaptureFault}
 use Rattle.jdwp_show.specs.Sessions.{first_fault}
@@ -28,6 +28,12 @@ abbrev pub LeavesCapture : ℕ → Option (List ℕ) → Option (List ℕ) → T
 LeavesCapture status old new =
     (capture : List ℕ) × (text : List ℕ) × IsTextOf capture text × (((status ≡ status_of_capture (first_fault capture)) × Appends old new text) ⊎ ((status ≡ 2) × AppendsPart old new text))
 
+-- a run with this status told what a recording gave of a capture, it or what is printed of it: all of that, and the status is 1 where the
+-- recording or the capture has a fault; or a beginning, and 2
+abbrev pub LeavesRecorded : ℕ → Option (List ℕ) → Option (List ℕ) → Type 0
+LeavesRecorded status old new =
+    (capture : List ℕ) × (text : List ℕ) × (IsTextOf capture text ⊎ (text ≡ capture)) × (((status ≤ 1) × Appends old new text) ⊎ ((status ≡ 2) × AppendsPart old new text))
+
 -- a run with this status told the program's version: all of it, and the status is 0, or a beginning, and 2
 abbrev pub LeavesVersion : ℕ → Option (List ℕ) → Option (List ℕ) → Type 0
 LeavesVersion status old new = ((status ≡ 0) × Appends old new version_line) ⊎ ((status ≡ 2) × AppendsPart old new version_line)
@@ -36,9 +42,10 @@ LeavesVersion status old new = ((status ≡ 0) × Appends old new version_line) 
 abbrev pub LeavesListening : ℕ → Option (List ℕ) → Option (List ℕ) → Type 0
 LeavesListening status old new = (port : ℕ) × (Appends old new (listening_line port) ⊎ ((status ≡ 2) × AppendsPart old new (listening_line port)))
 
--- what a run with this status leaves: nothing, what it told of a capture, the program's version, or the line of a port
+-- what a run with this status leaves: nothing, what it told of a capture or a recording, the program's version, or the line of a port
 abbrev pub Leaves : ℕ → Option (List ℕ) → Option (List ℕ) → Type 0
-Leaves status old new = Keeps old new ⊎ (LeavesCapture status old new ⊎ (LeavesVersion status old new ⊎ LeavesListening status old new))
+Leaves status old new =
+    Keeps old new ⊎ (LeavesCapture status old new ⊎ (LeavesVersion status old new ⊎ (LeavesListening status old new ⊎ LeavesRecorded status old new)))
 
 -- the same by what was answered of a capture or the version
 abbrev pub LeavesTold : Result Told TellFault → Option (List ℕ) → Option (List ℕ) → Type 0

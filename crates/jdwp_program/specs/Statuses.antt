@@ -1,11 +1,11 @@
 -- The exit status of a run.
 use Rattle.std.specs.Prelude.{ℕ}
-use Rattle.jdwp_pipe.specs.declared.ended.Ended.{Ended}
-use Rattle.jdwp_pipe.specs.declared.ended.Ended.TheVariants as ended
+use Rattle.jdwp_end.specs.declared.pipes.ended.Ended.{Ended}
+use Rattle.jdwp_end.specs.declared.pipes.ended.Ended.TheVariants as ended
 use Rattle.jdwp_program.specs.declared.captures.Told.{Told}
 use Rattle.jdwp_program.specs.declared.captures.Told.TheVariants.{Faultless, Faulty, Unread}
 use Rattle.jdwp_program.specs.declared.fault.Fault.{Fault}
-use Rattle.jdwp_program.specs.declared.fault.Fault.TheVariants.{Words, NotText, File, Script, Plan, Port, Output, Closed, NoMemory}
+use Rattle.jdwp_program.specs.declared.fault.Fault.TheVariants.{Words, NotText, File, Script, Plan, Recording, Port, Output, Closed, NoMemory}
 use Rattle.jdwp_program.specs.declared.outcome.Outcome.{Outcome}
 use Rattle.jdwp_program.specs.declared.outcome.Outcome.TheVariants.{Session, Lost, RefusedLine, Standstill, Capture, Version}
 
@@ -40,6 +40,7 @@ status_of_fault NotText = 1
 status_of_fault (File path cause) = 1
 status_of_fault (Script path fault detail) = 1
 status_of_fault (Plan path fault) = 1
+status_of_fault (Recording path fault) = 1
 status_of_fault (Port number cause) = 2
 status_of_fault (Output error) = 2
 status_of_fault (Closed error) = 2

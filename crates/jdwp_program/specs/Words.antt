@@ -1,7 +1,7 @@
 -- Which files the words of the command line keep.
 use Rattle.std.specs.Prelude.{◌≢◌, ℕ, List, ⊤}
 use Rattle.jdwp_program.specs.declared.words.Words.{Words}
-use Rattle.jdwp_program.specs.declared.words.Words.TheVariants.{ServeScript, Attach, Pair, Show, Check, Version}
+use Rattle.jdwp_program.specs.declared.words.Words.TheVariants.{ServeScript, Attach, Pair, Show, Check, Capture, Version}
 use Rattle.jdwp_program.specs.declared.words.Peer.{Peer}
 use Rattle.jdwp_program.specs.declared.words.Peer.TheVariants as peer
 
@@ -17,4 +17,5 @@ KeepsFiles (Attach words) = KeepsFile words.peer words.plan.now
 KeepsFiles (Pair words) = ⊤
 KeepsFiles (Show file) = ⊤
 KeepsFiles (Check file) = ⊤
+KeepsFiles (Capture file) = ⊤
 KeepsFiles Version = ⊤

@@ -1,16 +1,15 @@
 //! Sessions of a debugger by a plan, over any reader and writer and what is printed to.
 ghost use Rattle.std.specs.Prelude.{◌≡◌, List, map, IfOk, IfErr, OnErr};
 ghost use Rattle.std.specs.Str.Lines.{lines};
-ghost use Rattle.jdwp_pipe.specs.Streams.{story_of};
-ghost use Rattle.jdwp_plan.specs.declared.plan_line.PlanLine as declared;
-ghost use Rattle.jdwp_plan.specs.PlanLines.{said_by};
-ghost use Rattle.jdwp_plan.specs.Plans.{BeginsNoSession, SaysForAttach};
+ghost use Rattle.jdwp_end.specs.Streams.{story_of};
+ghost use Rattle.jdwp_attach.specs.declared.plans.plan_line.PlanLine as declared;
+ghost use Rattle.jdwp_attach.specs.PlanLines.{said_by};
+ghost use Rattle.jdwp_attach.specs.Plans.{BeginsNoSession, SaysForAttach};
 ghost use Rattle.jdwp_program.specs.Attaching.{AttachesNew, begun};
 
-use jdwp_attach::{Attached, attach_by_lines};
+use jdwp_attach::{Attached, PlanFault, PlanLine, attach_by_lines, read_attach_plan};
 use jdwp_debugger::{Debugger, Order};
-use jdwp_pipe::{Pipe, Streams};
-use jdwp_plan::{PlanFault, PlanLine, read_attach_plan};
+use jdwp_end::{Pipe, Streams};
 use jdwp_wire::Limits;
 use std::alloc::Global;
 use std::io::{Read, Write};

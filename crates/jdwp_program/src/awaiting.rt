@@ -1,9 +1,9 @@
 //! What a plan waits for that stands still.
 ghost use Rattle.std.specs.Prelude.{◌≡◌, map};
-ghost use Rattle.jdwp_plan.specs.PlanLines.{said_by};
+ghost use Rattle.jdwp_attach.specs.PlanLines.{said_by};
 ghost use Rattle.jdwp_program.specs.Awaiting.{awaited_at, awaited_by};
 
-use jdwp_plan::PlanLine;
+use jdwp_attach::PlanLine;
 use std::fmt;
 
 /// What a line of a plan waits for, or a plan behind its last line.

@@ -1,5 +1,5 @@
 //! Captures, shown and judged on a writer.
-ghost use Rattle.std.specs.Prelude.{◌≡◌, ◌++◌, IfOk, OnOk};
+ghost use Rattle.std.specs.Prelude.{◌≡◌, ◌++◌, IfOk, None, OnOk};
 ghost use Rattle.std.specs.String.{string_bytes};
 ghost use Rattle.jdwp_show.specs.Sessions.{first_fault};
 ghost use Rattle.jdwp_program.specs.declared.captures.TellFault.TheVariants as fault;
@@ -77,6 +77,16 @@ pub fn check_capture<O: Write>(alloc: Global, capture: &str, out: &mut O) -> Res
 {
     let judged = judged(alloc, capture)?;
     tell(out, judged.text.as_str(), judged.fault)
+}
+
+/// Prints a capture as it stands.
+///
+/// # Errors
+/// `Output` where the output didn't take all of it.
+pub fn print_capture<O: Write>(capture: &str, out: &mut O) -> Result<Told, TellFault>
+    ensures { Tells None capture.now (O.contents out.old) (O.contents out.new) result }
+{
+    tell(out, capture, None)
 }
 
 /// What is to be printed of a capture, and its first fault.

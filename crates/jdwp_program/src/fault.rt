@@ -5,8 +5,9 @@ ghost use Rattle.jdwp_program.specs.Files.{IsNotText, begins_as_recording, begin
 ghost use Rattle.jdwp_program.specs.declared.fault.Fault.TheVariants as fault;
 
 use crate::captures::TellFault;
-use jdwp_plan::PlanFault;
+use jdwp_attach::PlanFault;
 use jdwp_port::{PortCause, PortFault};
+use jdwp_recording::RecordingFault;
 use jdwp_script::{Detail, ScriptFault};
 use jdwp_wire::NoMemory;
 use std::alloc::AllocError;
@@ -32,6 +33,9 @@ pub enum Fault<'a> {
     /// The plan of this file is refused.
     #[error("{0}: {1}")]
     Plan(&'a str, PlanFault),
+    /// The recording of the network in this file gives no capture, or only a part of one.
+    #[error("{0}: {1}")]
+    Recording(&'a str, RecordingFault),
     /// A port that can't be taken, reached or used, and why.
     #[error("port {0}: {1}")]
     Port(u16, PortCause),
@@ -61,9 +65,6 @@ pub enum FileCause {
     /// It is not UTF-8. This is the place, counted from 0, of the first byte that begins no character.
     #[error("not UTF-8 at byte {0}, counted from 0")]
     NotUtf8(usize),
-    /// It is no capture but a recording of the network.
-    #[error("a recording of the network, as tcpdump writes it, and no capture: docs/CAPTURES.md says how to make one from it")]
-    Recording,
     /// It is no plan, since a byte order mark stands before its first line.
     #[error("a byte order mark stands before the first line of the plan")]
     ByteOrderMark,
@@ -76,7 +77,7 @@ pub enum FileCause {
 }
 
 impl<'a> Fault<'a> {
-    ghost use Rattle.jdwp_program.specs.Files.{IsUnusable, fault_of_plan, fault_of_script};
+    ghost use Rattle.jdwp_program.specs.Files.{IsUnusable, fault_of_plan, fault_of_recording, fault_of_script};
     ghost use Rattle.jdwp_program.specs.Statuses.{status_of_fault};
 
     /// Of a file of this name, whose opening or reading failed so.
@@ -117,6 +118,16 @@ impl<'a> Fault<'a> {
         }
     }
 
+    /// Of a recording in a file of this name that has this fault. Want of memory is told alone.
+    pub fn of_recording(path: &'a str, fault: RecordingFault) -> Fault<'a>
+        ensures { result ≡ fault_of_recording path.entry fault }
+    {
+        match fault {
+            RecordingFault::NoMemory => Fault::NoMemory,
+            fault => Fault::Recording(path, fault),
+        }
+    }
+
     /// The exit status: 2 for a port that can't be used, output that can't be written and a standard stream that is closed, 3 for want of memory, else 1.
     pub fn status(&self) -> u8
         ensures status { result ≡ status_of_fault self.now }
@@ -127,7 +138,8 @@ impl<'a> Fault<'a> {
             | Fault::NotText
             | Fault::File(_, _)
             | Fault::Script(_, _, _)
-            | Fault::Plan(_, _) => 1,
+            | Fault::Plan(_, _)
+            | Fault::Recording(_, _) => 1,
             Fault::Port(_, _) | Fault::Output(_) | Fault::Closed(_) => 2,
             Fault::NoMemory => 3,
         }

@@ -16,11 +16,24 @@ pub enum Words<'a> {
     /// `pair MACHINE PLAN`: a debugger runs a plan in a session with a target, both in this process.
     Pair(Pair<'a>),
     /// `show FILE`: a capture is shown in words.
-    Show(&'a str),
+    Show(CaptureFile<'a>),
     /// `check FILE`: a capture is judged.
-    Check(&'a str),
+    Check(CaptureFile<'a>),
+    /// `capture FILE`: the capture of a session in a recording of the network.
+    Capture(CaptureFile<'a>),
     /// `--version`: the program's name and version are told.
     Version,
+}
+
+/// `FILE [--target-port N] [--stream N]`, behind `show`, `check` or `capture`.
+#[derive(Clone, Copy, Debug, PartialEq, Eq)]
+pub struct CaptureFile<'a> {
+    /// The file of a capture, or of a recording of the network.
+    pub file: &'a str,
+    /// The target's port in a recording, where it is named. Connections without it are not counted then.
+    pub target_port: Option<u16>,
+    /// Which connection of a recording it is, from 1, by their first packets.
+    pub stream: u32,
 }
 
 /// Where the other end of a session is.
@@ -111,7 +124,11 @@ impl Words<'_> {
         match self {
             Words::ServeScript(words) => words.peer.emptied(words.machine, "MACHINE"),
             Words::Attach(words) => words.peer.emptied(words.plan, "PLAN"),
-            Words::Pair(_) | Words::Show(_) | Words::Check(_) | Words::Version => None,
+            Words::Pair(_)
+            | Words::Show(_)
+            | Words::Check(_)
+            | Words::Capture(_)
+            | Words::Version => None,
         }
     }
 }

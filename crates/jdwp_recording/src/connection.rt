@@ -106,6 +106,26 @@ impl Connection {
         })
     }
 
+    /// How many connections there are that `find` can find, with this port of the target's or whatever port.
+    ///
+    /// # Errors
+    /// `NoMemory`.
+    pub fn count(
+        alloc: Global,
+        recording: &Recording<'_>,
+        target_port: Option<u16>,
+    ) -> Result<usize, RecordingFault>
+        ensures { IfErr result (λ e. e ≡ fault.NoMemory) }
+    {
+        let mut found: Vec<Opening> = Vec::new(alloc);
+        for segment in &recording.segments {
+            if has_port(segment, target_port) && begins_another(&found, segment) {
+                found.push(Opening::of(segment))?;
+            }
+        }
+        Ok(found.len())
+    }
+
     /// Which side sent a segment. None where it is of another connection.
     pub fn sender(&self, segment: &Segment<'_>) -> Option<Sender> {
         if segment.from == self.debugger && segment.to == self.target {

@@ -1,4 +1,4 @@
-//! The laws of script machines, as contracts of functions that do nothing.
+//! Laws: each function says what holds, in its contract, and does nothing; to call it is to cite it.
 ghost use Rattle.std.specs.Prelude.{◌≡◌, ℕ, List, false, None};
 ghost use Rattle.jdwp_machine.specs.Laws.{IsLawful};
 ghost use Rattle.jdwp_script.specs.Parts.{ScriptPart};

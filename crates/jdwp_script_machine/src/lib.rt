@@ -13,7 +13,7 @@ mod field_values;
 mod frame_answers;
 mod group_answers;
 mod happening;
-mod laws;
+pub mod laws;
 mod layers;
 mod location_answers;
 mod look_ups;
@@ -34,6 +34,5 @@ mod steps;
 mod thread_answers;
 mod worked;
 
-pub use laws::{scripts_are_lawful, scripts_begin_soundly, scripts_go_on};
 pub use machine::ScriptMachine;
 pub use worked::definitions_give_worked_machine;

@@ -8,7 +8,7 @@ use Rattle.jdwp_show.specs.declared.capture_fault.CaptureFault.{CaptureFault}
 use Rattle.jdwp_show.specs.declared.capture_line.Sender.{Sender}
 use Rattle.jdwp_show.specs.declared.found.ItemRef.{ItemRef}
 use Rattle.jdwp_show.specs.declared.pending.CommandNumber.{CommandNumber}
-use Rattle.jdwp_show.specs.declared.pending.Pending.{Pending}
+use Rattle.jdwp_show.specs.declared.pending.AskedSoFar.{AskedSoFar}
 use Rattle.jdwp_show.specs.declared.waiting.Waiting.{Waiting}
 use Rattle.jdwp_show.specs.Found.{Found}
 use Rattle.jdwp_show.specs.Items.{Item}
@@ -30,16 +30,16 @@ at_or row (Some place) others = slice_index_or row place None
 abbrev pub waits_in : Waiting → ℕ → Option CommandNumber
 waits_in waiting id = at_or waiting.row.items (place_in waiting id) (get nat_cmp waiting.others id)
 
-abbrev pub waiting_in : Pending → ℕ → Option CommandNumber
+abbrev pub waiting_in : AskedSoFar → ℕ → Option CommandNumber
 waiting_in pending id = waits_in pending.commands id
 
 -- it says of these items what the rules ask
-pub record IsPending (pending : Pending) (items : List Item) : Type 0 where
+pub record IsPending (pending : AskedSoFar) (items : List Item) : Type 0 where
   pub begun : pending.begun ≡ has_begun items
   pub waits : (id : ℕ) → waiting_in pending id ≡ waiting items id
 
 -- one item more
-pub record IsAfter (old : Pending) (item : ItemRef) (new : Pending) : Type 0 where
+pub record IsAfter (old : AskedSoFar) (item : ItemRef) (new : AskedSoFar) : Type 0 where
   pub begun : new.begun ≡ (old.begun || (is_debugger item.sender && is_handshake (thing item.found)))
   pub waits : (id : ℕ) → waiting_in new id ≡ waits_after_found id item.sender (thing item.found) (waiting_in old id)
 

@@ -10,7 +10,7 @@ ghost use Rattle.jdwp_show.specs.Walks.{rest_of, IsUnderWay, HasEnded};
 
 use crate::capture_fault::CaptureFault;
 use crate::found::ItemRef;
-use crate::pending::{CommandNumber, Pending};
+use crate::pending::{AskedSoFar, CommandNumber};
 use crate::rules::{data_fault, order_fault, told};
 use crate::walk::Walk;
 use jdwp_wire::{IdSizes, NoMemory};
@@ -76,7 +76,7 @@ pub(crate) fn find_sizes(alloc: Global, walk: &mut Walk) -> Result<Option<IdSize
     requires { IsUnderWay walk.old }
     ensures { IfOk result (λ sizes. sizes ≡ widths_of (rest_of walk.old)) }
 {
-    let mut pending = Pending::new(alloc);
+    let mut pending = AskedSoFar::new(alloc);
     while let Some(item) = walk.next() {
         let begun = pending.begun();
         let waits = pending.record(&item)?;
@@ -105,7 +105,7 @@ pub(crate) fn find_broken<O: Observer>(
         (O.said observer.old) [] (unanswered (fault_answer sizes.now) [] (rest_of walk.old))) }
     ensures ended { IfOk result (λ broken. broken ≡ None → HasEnded walk.old walk.new) }
 {
-    let mut pending = Pending::new(alloc);
+    let mut pending = AskedSoFar::new(alloc);
     while let Some(item) = walk.next() {
         let begun = pending.begun();
         let waits = pending.record(&item)?;

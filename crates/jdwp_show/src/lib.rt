@@ -9,7 +9,7 @@ mod data_text;
 mod found;
 mod hex_digits;
 mod judging;
-mod laws;
+pub mod laws;
 mod message_line;
 mod message_text;
 mod pending;
@@ -24,10 +24,6 @@ mod walk;
 pub use capture_fault::CaptureFault;
 pub use capture_line::Sender;
 pub use checking::{Verdict, check};
-pub use laws::{
-    finds_each_message, keeps_each_message, stands_in_its_line, tells_widths_by_layout,
-    tells_widths_first, waits_where_it_stands,
-};
 pub use message_line::{composite_data_line, composite_line, reply_line};
 pub use pending::CommandNumber;
 pub use showing::{Shown, show};

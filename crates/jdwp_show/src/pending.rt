@@ -16,21 +16,21 @@ pub struct CommandNumber {
 
 /// What the items so far say: whether the debugger's handshake is among them, and which commands wait under which ids.
 #[derive(Drop)]
-pub(crate) struct Pending {
+pub(crate) struct AskedSoFar {
     begun: bool,
     commands: Waiting,
 }
 
-impl Pending {
+impl AskedSoFar {
     ghost use Rattle.jdwp_show.specs.Pending.{waiting_in, IsAfter};
     ghost use Rattle.jdwp_show.specs.Rules.{under};
     ghost use Rattle.jdwp_show.specs.Streams.{thing};
 
-    pub(crate) fn new(alloc: Global) -> Pending
+    pub(crate) fn new(alloc: Global) -> AskedSoFar
         ensures begun { result.begun ≡ false }
         ensures waits { (id : ℕ) → waiting_in result id ≡ None }
     {
-        Pending {
+        AskedSoFar {
             begun: false,
             commands: Waiting::new(alloc),
         }

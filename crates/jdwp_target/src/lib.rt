@@ -5,7 +5,7 @@
 
 mod deferral;
 mod deferring;
-mod laws;
+pub mod laws;
 mod numbers;
 mod options;
 mod releasing;
@@ -16,10 +16,6 @@ mod stepping;
 mod target;
 mod turning;
 
-pub use laws::{
-    answers_what_came, closes_for_a_reason, encodes_start_and_death, few_are_deferred,
-    goes_on_at_each_call, numbers_composites_in_order, visits_what_turns,
-};
 pub use options::TargetOptions;
 pub use setup::SetupFault;
 pub use target::{Stepped, Target, TargetFault, Turn};

@@ -17,13 +17,6 @@ pub fn enqueue_int(number: u32, end: &mut End)
     end.enqueue(&bytes);
 }
 
-/// The id of a packet fits its four bytes. It does nothing.
-pub fn fits_id(_id: u32)
-    ensures { _id < 2 ^ 32 }
-{
-    // Only contracts see it.
-}
-
 /// An error code fits its two bytes.
 pub fn fits_code(error: ErrorCode) -> u16
     ensures code { result ≡ error.0 }

@@ -10,10 +10,10 @@ ghost use Rattle.jdwp_target.specs.Standings.{reports_step, stands, steps_in_ses
 ghost use Rattle.jdwp_target.specs.StepParts.{CanTell, debuggee_after, end_after, step_of, told_of_done};
 ghost use Rattle.jdwp_target.specs.Turns.{EncodesWhere, SendsWhere, StepsAt, is_frozen};
 
-use crate::numbers::fits_id;
+use crate::laws;
 use crate::sending::{enqueue_death, enqueue_report};
 use crate::target::{Stepped, Target, TargetFault};
-use jdwp_debuggee::{Debuggee, StepDone, fits_vm_death};
+use jdwp_debuggee::{Debuggee, StepDone};
 use jdwp_end::End;
 use jdwp_machine::Machine;
 use jdwp_value::ObjectId;
@@ -107,9 +107,9 @@ fn fits_step<M: Machine>(
     ensures { AreSendable _end.now.limits.packet (reports_step sizes.now packet
         (step_of debuggee.now done.now) (stands debuggee.now.moment _end.now.phase)).sends }
 {
-    fits_vm_death();
-    fits_id(packet);
-    fits_id(debuggee.next_packet());
+    jdwp_debuggee::laws::fits_vm_death();
+    laws::fits_id(packet);
+    laws::fits_id(debuggee.next_packet());
 }
 
 /// Puts what a step reports, if the session is established; where the machine died the session closes.

@@ -32,10 +32,11 @@ ghost use Rattle.jdwp_target.specs.Protocol.{AddsRequest, Answers, EachCount, Ha
 ghost use Rattle.jdwp_target.specs.Visits.{visits_hello, visits_read};
 
 use crate::deferral::may_be_deferred;
-use crate::numbers::{enqueue_int, fits_code, fits_id};
+use crate::laws;
+use crate::numbers::{enqueue_int, fits_code};
 use crate::sending::{enqueue_composite_header, enqueue_death, enqueue_reply};
 use crate::target::{Target, TargetFault, Turn};
-use jdwp_debuggee::{Debuggee, ParsedCommand, Reply, Sent, Start, fits_vm_death, read_command};
+use jdwp_debuggee::{Debuggee, ParsedCommand, Reply, Sent, Start, read_command};
 use jdwp_end::{End, Front};
 use jdwp_event::EventKind;
 use jdwp_machine::Machine;
@@ -351,7 +352,7 @@ fn greet<M: Machine>(debuggee: &mut Debuggee<M>, end: &mut End)
     end.enqueue(&HANDSHAKE);
     let sizes = debuggee.sizes();
     if let Some(start) = debuggee.handshake() {
-        fits_id(start.packet);
+        laws::fits_id(start.packet);
         enqueue_start(start, &sizes, end);
     }
 }
@@ -418,9 +419,9 @@ pub(crate) fn fits_reply<M: Machine>(id: u32, done: &Done, sizes: &IdSizes, debu
         → AreSendable limit (reply_of sizes.now id done.now.sent ∷ deaths sizes.now
         debuggee.now.moment.state.next_packet done.now.dies) }
 {
-    fits_vm_death();
-    fits_id(id);
-    fits_id(debuggee.next_packet());
+    jdwp_debuggee::laws::fits_vm_death();
+    laws::fits_id(id);
+    laws::fits_id(debuggee.next_packet());
     fits_code(error_of(&done.sent));
 }
 

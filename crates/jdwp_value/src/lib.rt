@@ -2,14 +2,13 @@
 #![tactic(auto)]
 
 mod id;
-mod laws;
+pub mod laws;
 mod location;
 mod region;
 mod tag;
 mod value;
 
 pub use id::{FieldId, FrameId, MethodId, ObjectId, ReferenceTypeId};
-pub use laws::rises_by_id;
 pub use location::{Location, TypeTag};
 pub use region::ArrayRegion;
 pub use tag::{ObjectTag, Tag};

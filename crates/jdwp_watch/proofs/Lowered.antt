@@ -6,7 +6,8 @@ use Rattle.std.specs.Prelude.{count_by}
 use Rattle.jdwp_action.specs.Actions as actions
 use Rattle.jdwp_action.specs.Actions.{Action, Command, about, action_of, thread_of}
 use Rattle.jdwp_action.specs.AboutLaws.{about_action}
-use Rattle.jdwp_mirror.specs.CommandKinds.{id_found, kind_of}
+use Rattle.jdwp_mirror.specs.CommandKinds.{kind_of}
+use Rattle.jdwp_event.specs.Told.{id_found}
 use Rattle.jdwp_apart.specs.Messages.{lowers, one_if}
 use Rattle.jdwp_apart.specs.Watch.{all_lower, rest}
 use Rattle.jdwp_watch.specs.declared.waiting.Lowering.{Lowering}

@@ -6,7 +6,7 @@ use Rattle.jdwp_layout.specs.declared.answer.Answer.TheVariants.{Data, Error}
 use Rattle.jdwp_action.specs.Actions as actions
 use Rattle.jdwp_action.specs.Actions.{Action}
 use Rattle.jdwp_event.specs.Composites.{POLICY_EVENT_THREAD, POLICY_ALL}
-use Rattle.jdwp_mirror.specs.CommandKinds.{id_found}
+use Rattle.jdwp_event.specs.Told.{id_found}
 use Rattle.jdwp_apart.specs.Messages.{Composite, is_own, is_refused, is_thread, raises, lowers, counted_by, answered_count, count_in, needs, stops, one_if}
 use Rattle.jdwp_watch.specs.declared.standing.Telling.{Telling}
 use Rattle.jdwp_watch.specs.declared.told.Told.{Told}

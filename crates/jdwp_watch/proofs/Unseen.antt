@@ -11,7 +11,7 @@ use Rattle.jdwp_layout.specs.declared.answer.Answer.{Answer}
 use Rattle.jdwp_layout.specs.declared.answer.Answer.TheVariants.{Data, Error}
 use Rattle.jdwp_action.specs.Actions as actions
 use Rattle.jdwp_action.specs.Actions.{Action}
-use Rattle.jdwp_mirror.specs.CommandKinds.{object_id}
+use Rattle.jdwp_event.specs.Told.{object_id}
 use Rattle.jdwp_apart.specs.Watch.{all_lower, later, lived_after, lived_at, sure}
 use Rattle.jdwp_watch.specs.declared.bound.Bound.{Bound}
 use Rattle.jdwp_watch.specs.declared.standing.Knows.{Knows}

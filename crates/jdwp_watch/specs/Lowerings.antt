@@ -5,7 +5,7 @@ use Rattle.jdwp_mirror.specs.declared.command.CommandKind.{CommandKind}
 use Rattle.jdwp_mirror.specs.declared.command.CommandKind.TheVariants as kinds
 use Rattle.jdwp_action.specs.Actions
 use Rattle.jdwp_action.specs.Actions.{Action, Command, action_of}
-use Rattle.jdwp_mirror.specs.CommandKinds.{object_id}
+use Rattle.jdwp_event.specs.Told.{object_id}
 use Rattle.jdwp_wire.specs.Widths.{Widths}
 use Rattle.jdwp_apart.specs.Following.{invocation_in}
 use Rattle.jdwp_apart.specs.Messages.{Invocation, lowers, releases}

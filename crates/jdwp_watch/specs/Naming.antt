@@ -3,7 +3,7 @@ use Rattle.std.specs.Prelude.{◌≡◌, ℕ, Bool, true, false, List, map, Opti
 use Rattle.std.specs.Ordering.{nat_cmp}
 use Rattle.std.specs.List.Sorted.{IsStrictlySortedBy}
 use Rattle.jdwp_value.specs.declared.id.ObjectId.{ObjectId}
-use Rattle.jdwp_mirror.specs.CommandKinds.{object_id}
+use Rattle.jdwp_event.specs.Told.{object_id}
 use Rattle.jdwp_apart.specs.Following.{Following}
 use Rattle.jdwp_apart.specs.Watch.{Knows, Unseen, Counted, Named}
 use Rattle.jdwp_watch.specs.Ledgers.{Account}

@@ -4,7 +4,7 @@ use Rattle.std.specs.Ordering.{nat_cmp}
 use Rattle.std.specs.BTreeMap.{BTreeMap, get, is_at}
 use Rattle.std.specs.Map.{lookup, keys_of}
 use Rattle.jdwp_value.specs.declared.id.ObjectId.{ObjectId}
-use Rattle.jdwp_mirror.specs.CommandKinds.{object_id}
+use Rattle.jdwp_event.specs.Told.{object_id}
 use Rattle.jdwp_watch.specs.declared.standing.Standing.{Standing}
 use Rattle.jdwp_watch.specs.declared.standing.Change.{Change}
 use Rattle.jdwp_watch.specs.declared.standings.Met.{Met}

@@ -5,8 +5,8 @@ use Rattle.jdwp_layout.specs.declared.answer.Answer.{Answer}
 use Rattle.jdwp_layout.specs.declared.answer.Answer.TheVariants.{Data, Error}
 use Rattle.jdwp_action.specs.Actions.{Action, about}
 use Rattle.jdwp_event.specs.Composites.{CompositeMeaning, POLICY_EVENT_THREAD, POLICY_ALL}
-use Rattle.jdwp_event.specs.Told.{composite_thread}
-use Rattle.jdwp_mirror.specs.CommandKinds.{kind_of, id_found}
+use Rattle.jdwp_event.specs.Told.{composite_thread, id_found}
+use Rattle.jdwp_mirror.specs.CommandKinds.{kind_of}
 use Rattle.jdwp_mirror.specs.declared.command.CommandKind.{CommandKind}
 use Rattle.jdwp_mirror.specs.declared.command.CommandKind.TheVariants as kinds
 use Rattle.jdwp_apart.specs.Messages.{count_in}

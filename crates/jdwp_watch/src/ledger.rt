@@ -4,7 +4,7 @@ ghost use Rattle.jdwp_action.specs.Actions.{action_of};
 ghost use Rattle.jdwp_mirror.specs.CommandKinds.{kind_of};
 ghost use Rattle.jdwp_apart.specs.Following.{made_by};
 ghost use Rattle.std.specs.Map.Iter.{GivesInOrder};
-ghost use Rattle.jdwp_mirror.specs.CommandKinds.{object_id};
+ghost use Rattle.jdwp_event.specs.Told.{object_id};
 ghost use Rattle.jdwp_value.specs.declared.id.ObjectId.{ObjectId};
 ghost use Rattle.jdwp_watch.specs.Naming.{Covers, is_named_at};
 ghost use Rattle.jdwp_watch.specs.Tables.{named};

@@ -6,7 +6,7 @@ ghost use Rattle.std.specs.Iterator.SizeHint.{IsWithinCount};
 ghost use Rattle.std.specs.List.Sorted.{IsStrictlySortedBy};
 ghost use Rattle.std.specs.Map.Iter.{GivesInOrder, TakesFirst};
 ghost use Rattle.std.specs.Ordering.{nat_cmp};
-ghost use Rattle.jdwp_mirror.specs.CommandKinds.{object_id};
+ghost use Rattle.jdwp_event.specs.Told.{object_id};
 ghost use Rattle.jdwp_value.specs.declared.id.ObjectId.{ObjectId};
 
 use crate::standings::Met;
@@ -24,7 +24,7 @@ pub struct NamedThreads<'a> {
 
 impl<'a> Model for NamedThreads<'a> {
     ghost use Rattle.std.specs.Prelude.{List, map};
-    ghost use Rattle.jdwp_mirror.specs.CommandKinds.{object_id};
+    ghost use Rattle.jdwp_event.specs.Told.{object_id};
     ghost use Rattle.jdwp_value.specs.declared.id.ObjectId.{ObjectId};
 
     ghost Value = { List ObjectId };

@@ -2,14 +2,13 @@
 ghost use Rattle.std.specs.Prelude.{◌≡◌, ◌<◌, ◌^◌};
 ghost use Rattle.jdwp_action.specs.Actions.{action_of};
 ghost use Rattle.jdwp_apart.specs.Messages.{count_in};
-ghost use Rattle.jdwp_event.specs.Told.{composite_thread, event_thread, events_thread};
-ghost use Rattle.jdwp_layout.specs.Meanings.{meanings, scalar_meanings};
-ghost use Rattle.jdwp_mirror.specs.CommandKinds.{id_found};
+ghost use Rattle.jdwp_event.specs.Told.{id_found};
+ghost use Rattle.jdwp_layout.specs.Meanings.{meanings};
 ghost use Rattle.jdwp_watch.specs.Tellings.{told_by, told_in};
 ghost use Rattle.jdwp_watch.specs.Tellings as spec;
 
 use crate::standing::Telling;
-use jdwp_event::{Composite, Event, Policy};
+use jdwp_event::{Composite, Policy, thread_in};
 use jdwp_layout::{Answer, Data, Datum, Scalar};
 use jdwp_mirror::{Command, CommandKind};
 use jdwp_value::ObjectId;
@@ -156,43 +155,9 @@ impl Stops {
     {
         let others = composite.policy() == Policy::All.byte();
         Stops {
-            thread: thread_in_events(composite.events()),
+            thread: thread_in(composite),
             own: others || composite.policy() == Policy::EventThread.byte(),
             others,
         }
-    }
-}
-
-/// The thread that a composite of these events is of; None where none of them has one.
-fn thread_in_events(events: &[Event]) -> Option<ObjectId>
-    ensures { result ≡ id_found (events_thread events.now) }
-{
-    for event in events {
-        let thread = thread_of_event(event);
-        if thread.is_some() {
-            return thread;
-        }
-    }
-    None
-}
-
-/// The thread of an event; None where it has none.
-fn thread_of_event(event: &Event) -> Option<ObjectId>
-    ensures { result ≡ id_found (event_thread event.now) }
-{
-    thread_in_fields(event.fields())
-}
-
-fn thread_in_fields(fields: &[Scalar]) -> Option<ObjectId>
-    ensures { result ≡ id_found (event_thread (scalar_meanings fields.now)) }
-{
-    match fields {
-        [
-            Scalar::Byte(_),
-            Scalar::Int(_),
-            Scalar::ObjectId(thread),
-            ..
-        ] => Some(*thread),
-        _ => None,
     }
 }

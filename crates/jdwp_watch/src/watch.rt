@@ -5,7 +5,7 @@ ghost use Rattle.jdwp_apart.specs.Messages.{Reply};
 ghost use Rattle.jdwp_value.specs.declared.id.ObjectId.{ObjectId};
 ghost use Rattle.jdwp_apart.specs.Watch as definition;
 ghost use Rattle.jdwp_apart.specs.Watch.{asks, invokes, reads_composite, reads_reply, returns_from, start};
-ghost use Rattle.jdwp_mirror.specs.CommandKinds.{object_id};
+ghost use Rattle.jdwp_event.specs.Told.{object_id};
 ghost use Rattle.jdwp_watch.specs.Targets.{CountsAtLeast, InEachTarget, IsSuspended};
 ghost use Rattle.jdwp_watch.specs.Watching as spec;
 ghost use Rattle.jdwp_watch.specs.Watching.{invocation_of, nobody, others_by, others_of, threads_of, watch_of};

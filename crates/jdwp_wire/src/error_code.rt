@@ -1,6 +1,4 @@
 //! Error codes of reply packets (JDWP specification, "Error Constants").
-ghost use Rattle.std.specs.Prelude.{◌≡◌};
-ghost use Rattle.jdwp_wire.specs.ErrorCodes as codes;
 
 /// The error code of a reply packet: 16 bits, 0 where the command succeeded.
 ///
@@ -58,31 +56,3 @@ impl ErrorCode {
     /// A count is not allowed.
     pub const INVALID_COUNT: ErrorCode = ErrorCode(512);
 }
-
-/// The constants are the specification's codes.
-pub fn names_error_codes()
-    ensures none { ErrorCode.NONE ≡ codes.NONE }
-    ensures invalid_thread { ErrorCode.INVALID_THREAD ≡ codes.INVALID_THREAD }
-    ensures invalid_thread_group { ErrorCode.INVALID_THREAD_GROUP ≡ codes.INVALID_THREAD_GROUP }
-    ensures thread_not_suspended { ErrorCode.THREAD_NOT_SUSPENDED ≡ codes.THREAD_NOT_SUSPENDED }
-    ensures invalid_object { ErrorCode.INVALID_OBJECT ≡ codes.INVALID_OBJECT }
-    ensures invalid_class { ErrorCode.INVALID_CLASS ≡ codes.INVALID_CLASS }
-    ensures class_not_prepared { ErrorCode.CLASS_NOT_PREPARED ≡ codes.CLASS_NOT_PREPARED }
-    ensures invalid_methodid { ErrorCode.INVALID_METHODID ≡ codes.INVALID_METHODID }
-    ensures invalid_location { ErrorCode.INVALID_LOCATION ≡ codes.INVALID_LOCATION }
-    ensures invalid_fieldid { ErrorCode.INVALID_FIELDID ≡ codes.INVALID_FIELDID }
-    ensures invalid_frameid { ErrorCode.INVALID_FRAMEID ≡ codes.INVALID_FRAMEID }
-    ensures type_mismatch { ErrorCode.TYPE_MISMATCH ≡ codes.TYPE_MISMATCH }
-    ensures invalid_slot { ErrorCode.INVALID_SLOT ≡ codes.INVALID_SLOT }
-    ensures invalid_module { ErrorCode.INVALID_MODULE ≡ codes.INVALID_MODULE }
-    ensures not_implemented { ErrorCode.NOT_IMPLEMENTED ≡ codes.NOT_IMPLEMENTED }
-    ensures absent_information { ErrorCode.ABSENT_INFORMATION ≡ codes.ABSENT_INFORMATION }
-    ensures invalid_event_type { ErrorCode.INVALID_EVENT_TYPE ≡ codes.INVALID_EVENT_TYPE }
-    ensures illegal_argument { ErrorCode.ILLEGAL_ARGUMENT ≡ codes.ILLEGAL_ARGUMENT }
-    ensures internal { ErrorCode.INTERNAL ≡ codes.INTERNAL }
-    ensures invalid_index { ErrorCode.INVALID_INDEX ≡ codes.INVALID_INDEX }
-    ensures invalid_length { ErrorCode.INVALID_LENGTH ≡ codes.INVALID_LENGTH }
-    ensures invalid_string { ErrorCode.INVALID_STRING ≡ codes.INVALID_STRING }
-    ensures invalid_array { ErrorCode.INVALID_ARRAY ≡ codes.INVALID_ARRAY }
-    ensures invalid_count { ErrorCode.INVALID_COUNT ≡ codes.INVALID_COUNT }
-{}

@@ -1,4 +1,4 @@
-//! The laws of every `Wire` type, and of messages at the front of bytes, as contracts of functions that do nothing.
+//! Laws: each function says what holds, in its contract, and does nothing; to call it is to cite it.
 ghost use Rattle.std.specs.Prelude.{◌≡◌, ℕ, ◌+◌, ◌^◌, ◌<◌, ◌++◌, List, [], ◌∷◌, length, take, Bool, true, false, Ok, Err};
 ghost use Rattle.jdwp_wire.specs.declared.data_fault.DataFault.{DataFault};
 ghost use Rattle.jdwp_wire.specs.declared.packet.Header.{Header};
@@ -7,8 +7,11 @@ ghost use Rattle.jdwp_wire.specs.Bytes.{IsBytes};
 ghost use Rattle.jdwp_wire.specs.Frames.{packet_bytes, IsPacket};
 ghost use Rattle.jdwp_wire.specs.Handshake.{handshake_bytes};
 ghost use Rattle.jdwp_wire.specs.Streams.{Message, Handshake, Packet, Whole, More, stream, IsSendable, next_message, is_packet, front_of_cut};
+ghost use Rattle.jdwp_wire.specs.ErrorCodes as codes;
 
+use crate::error_code::ErrorCode;
 use crate::wire::Wire;
+use circular_buffer::HeapCircularBuffer;
 
 /// What is encoded, and so what `put` writes, is read again, whatever follows.
 pub fn reads_what_is_encoded<T: Wire>()
@@ -76,4 +79,44 @@ pub fn finds_first_message()
         → IsSendable limit message
         → next_message limit (is_packet message) (take n (stream (message ∷ messages)))
         ≡ front_of_cut n message }
+{}
+
+/// The constants are the specification's codes.
+pub fn names_error_codes()
+    ensures none { ErrorCode.NONE ≡ codes.NONE }
+    ensures invalid_thread { ErrorCode.INVALID_THREAD ≡ codes.INVALID_THREAD }
+    ensures invalid_thread_group { ErrorCode.INVALID_THREAD_GROUP ≡ codes.INVALID_THREAD_GROUP }
+    ensures thread_not_suspended { ErrorCode.THREAD_NOT_SUSPENDED ≡ codes.THREAD_NOT_SUSPENDED }
+    ensures invalid_object { ErrorCode.INVALID_OBJECT ≡ codes.INVALID_OBJECT }
+    ensures invalid_class { ErrorCode.INVALID_CLASS ≡ codes.INVALID_CLASS }
+    ensures class_not_prepared { ErrorCode.CLASS_NOT_PREPARED ≡ codes.CLASS_NOT_PREPARED }
+    ensures invalid_methodid { ErrorCode.INVALID_METHODID ≡ codes.INVALID_METHODID }
+    ensures invalid_location { ErrorCode.INVALID_LOCATION ≡ codes.INVALID_LOCATION }
+    ensures invalid_fieldid { ErrorCode.INVALID_FIELDID ≡ codes.INVALID_FIELDID }
+    ensures invalid_frameid { ErrorCode.INVALID_FRAMEID ≡ codes.INVALID_FRAMEID }
+    ensures type_mismatch { ErrorCode.TYPE_MISMATCH ≡ codes.TYPE_MISMATCH }
+    ensures invalid_slot { ErrorCode.INVALID_SLOT ≡ codes.INVALID_SLOT }
+    ensures invalid_module { ErrorCode.INVALID_MODULE ≡ codes.INVALID_MODULE }
+    ensures not_implemented { ErrorCode.NOT_IMPLEMENTED ≡ codes.NOT_IMPLEMENTED }
+    ensures absent_information { ErrorCode.ABSENT_INFORMATION ≡ codes.ABSENT_INFORMATION }
+    ensures invalid_event_type { ErrorCode.INVALID_EVENT_TYPE ≡ codes.INVALID_EVENT_TYPE }
+    ensures illegal_argument { ErrorCode.ILLEGAL_ARGUMENT ≡ codes.ILLEGAL_ARGUMENT }
+    ensures internal { ErrorCode.INTERNAL ≡ codes.INTERNAL }
+    ensures invalid_index { ErrorCode.INVALID_INDEX ≡ codes.INVALID_INDEX }
+    ensures invalid_length { ErrorCode.INVALID_LENGTH ≡ codes.INVALID_LENGTH }
+    ensures invalid_string { ErrorCode.INVALID_STRING ≡ codes.INVALID_STRING }
+    ensures invalid_array { ErrorCode.INVALID_ARRAY ≡ codes.INVALID_ARRAY }
+    ensures invalid_count { ErrorCode.INVALID_COUNT ≡ codes.INVALID_COUNT }
+{}
+
+/// The elements of a ring of bytes are bytes.
+pub(crate) fn are_bytes(ring: &HeapCircularBuffer<u8>)
+    ensures { IsBytes ring.now.items }
+{
+    let (first, second) = ring.as_slices();
+    are_all_bytes(first, second);
+}
+
+pub(crate) fn are_all_bytes(_first: &[u8], _second: &[u8])
+    ensures { IsBytes (_first.now ++ _second.now) }
 {}

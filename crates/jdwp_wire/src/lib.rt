@@ -6,7 +6,7 @@ mod data_fault;
 mod error_code;
 mod frame;
 mod id_sizes;
-mod laws;
+pub mod laws;
 mod limits;
 mod no_memory;
 pub mod number;
@@ -16,16 +16,12 @@ mod wire;
 mod writing;
 
 pub use data_fault::DataFault;
-pub use error_code::{ErrorCode, names_error_codes};
+pub use error_code::ErrorCode;
 pub use frame::{
     FrameFault, HANDSHAKE, HEADER_LENGTH, Next, NextHello, PACKET_LIMIT, next_hello, next_packet,
     next_packet_within,
 };
 pub use id_sizes::{BadSize, IdKind, IdSizes, Width};
-pub use laws::{
-    answers_first_fault, begins_with_one_fault, begins_with_one_value, calls_for_more,
-    finds_first_message, finds_whole_messages, reads_only_encoded, reads_what_is_encoded,
-};
 pub use limits::{LEAST_PACKET_LIMIT, Limits, MOST_PACKET_LIMIT};
 pub use no_memory::NoMemory;
 pub use packet::{Header, PacketKind, PacketRef};

@@ -1,7 +1,6 @@
 //! What stands at the front of a byte stream whose bytes lie in a ring.
-ghost use Rattle.std.specs.Prelude.{◌≡◌, ◌<◌, ◌≤◌, ◌++◌, length, slice_index};
+ghost use Rattle.std.specs.Prelude.{◌≡◌, ◌<◌, ◌≤◌, length, slice_index};
 ghost use Rattle.std.specs.Borrow.{sem};
-ghost use Rattle.jdwp_wire.specs.Bytes.{IsBytes};
 ghost use Rattle.jdwp_wire.specs.Handshake.{HandshakeFrontOf, handshake_front};
 ghost use Rattle.jdwp_wire.specs.Frames.{Front, FrontOf, front, front_meaning, header_of, kind_of};
 ghost use Rattle.jdwp_wire.specs.Limits.{standard_limits};
@@ -10,6 +9,7 @@ ghost use Rattle.jdwp_wire.specs.Standing.{TellsStanding};
 
 use crate::error_code::ErrorCode;
 use crate::frame::{FrameFault, HANDSHAKE, HEADER_LENGTH, Next, NextHello, next_packet_within};
+use crate::laws;
 use crate::limits::Limits;
 use crate::packet::{Header, PacketKind};
 use circular_buffer::HeapCircularBuffer;
@@ -105,7 +105,7 @@ pub fn next_packet_in_within<'a>(ring: &'a mut HeapCircularBuffer<u8>, limits: &
     ensures only { (f : Front) → FrontOf limits.now.packet ring.old.items f → front_meaning result ≡ f }
     ensures exact { front_meaning result ≡ front limits.now.packet ring.old.items }
 {
-    are_bytes(ring);
+    laws::are_bytes(ring);
     let _limit = limits.packet();
     find_packet_in(ring, limits)
 }
@@ -176,18 +176,4 @@ fn at(ring: &HeapCircularBuffer<u8>, place: usize) -> u8
         Some(byte) => *byte,
         None => unreachable!(),
     }
-}
-
-/// The elements of a ring of bytes are bytes. It does nothing.
-fn are_bytes(ring: &HeapCircularBuffer<u8>)
-    ensures { IsBytes ring.now.items }
-{
-    let (first, second) = ring.as_slices();
-    are_all_bytes(first, second);
-}
-
-fn are_all_bytes(_first: &[u8], _second: &[u8])
-    ensures { IsBytes (_first.now ++ _second.now) }
-{
-    // Only contracts see it.
 }

@@ -1,2 +1,2 @@
 -- What contracts say of sessions over scripts.
-pub use Rattle.jdwp_serve.specs.Serving
+pub use Rattle.jdwp_engine.specs.Serving

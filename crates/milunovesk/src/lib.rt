@@ -4,6 +4,8 @@
 //! a link in use.
 #![tactic(auto)]
 
+pub mod laws;
+
 // Frames, items of data, and limits.
 pub use jdwp_wire::{
     BadSize, DataFault, ErrorCode, FrameFault, Header, IdKind, IdSizes, Limits, Next, NextHello,
@@ -61,33 +63,22 @@ pub use jdwp_text as texts;
 // Both ends in one process.
 pub use jdwp_link::{Link, LinkEvent, Memory, Outcome, Side, Stopped, Way, deliver};
 
-// What holds of all of them: each is a theorem, and does nothing when it is called.
-pub use jdwp_link::{settles_each_ticket_once, tells_what_the_target_gave};
-pub use jdwp_model::{
-    answers_one_that_waits, counts_at_most, defers_few_commands, frames_read_stay_true,
-    holds_only_suspended_threads, idle_turns_change_nothing, meets_no_fault, mirrors_what_was_seen,
-    settles_each_command_once, settles_in_order, stands_soundly, tells_what_was_given,
-    turns_close_at_ends_alone,
-};
-pub use jdwp_script_machine::{scripts_are_lawful, scripts_begin_soundly, scripts_go_on};
-pub use jdwp_target::{closes_for_a_reason, visits_what_turns};
-
 // Captures.
 pub use jdwp_show::{CaptureFault, Shown, Verdict, check, composite_line, reply_line, show};
 
 // Sessions over readers and writers.
-pub use jdwp_attach::{Attached, attach, attach_by_lines};
-pub use jdwp_engine::serve;
-pub use jdwp_pipe::{Ended, Pipe, Streams};
-pub use jdwp_plan::{LineFault, PlanFault, PlanLine, read_plan};
-pub use jdwp_serve::{serve_script, serve_session};
+pub use jdwp_attach::{
+    Attached, LineFault, PlanFault, PlanLine, attach, attach_by_lines, read_plan,
+};
+pub use jdwp_end::{Ended, Pipe, Streams};
+pub use jdwp_engine::{serve, serve_script, serve_session};
 
-// A client: a debugger that asks, and waits for answers and events.
+// A client: a debugger that asks, and waits for answers and events; and one at an address.
 pub use jdwp_client as client;
+pub use jdwp_client_port::{ConnectFault, Connection, connect};
 
 // Live sessions: a target whose threads step while a debugger is there.
-pub use jdwp_live::serve_live;
-pub use jdwp_live_pipe::{Came, LivePipe, LiveStreams, Patience, PatientRead};
+pub use jdwp_live::{Came, LivePipe, LiveStreams, Patience, PatientRead, serve_live};
 
 // Sessions at ports of this machine.
 pub use jdwp_port as ports;

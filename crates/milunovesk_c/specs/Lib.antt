@@ -5,6 +5,7 @@ pub mod Handles
 pub mod KeptIn
 pub mod Names
 pub mod Numbers
+pub mod Packets
 pub mod Seats
 pub mod Targets
 pub mod Telling

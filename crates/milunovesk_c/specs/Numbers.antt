@@ -51,3 +51,21 @@ A_DEBUGGER = 1
 
 abbrev pub A_TARGET : ℕ
 A_TARGET = 2
+
+-- ---- what is left behind packets
+
+-- no bytes
+abbrev pub NOTHING_LEFT : ℕ
+NOTHING_LEFT = 0
+
+-- the beginning of a packet, which calls for more bytes
+abbrev pub BEGINNING_LEFT : ℕ
+BEGINNING_LEFT = 1
+
+-- a packet, for which there is no room
+abbrev pub PACKET_LEFT : ℕ
+PACKET_LEFT = 2
+
+-- the beginning of no packet
+abbrev pub FAULT_LEFT : ℕ
+FAULT_LEFT = 3

@@ -11,7 +11,7 @@ use Rattle.jdwp_debugger.specs.declared.faults.DebuggerFault.TheVariants as code
 use Rattle.jdwp_debugger.specs.declared.turning.Read.TheVariants as read
 use Rattle.jdwp_debugger.specs.FaultNumbers.{fault_number}
 use Rattle.jdwp_debugger.specs.DebuggerTurns.{MayTakeMemory, Told, Nothing, Hello, Parked, Sizes, Answered, Seen, TurnsAt, read_meaning}
-use Rattle.jdwp_tell.specs.Telling.{turn_lines}
+use Rattle.jdwp_attach.specs.Telling.{turn_lines}
 use Rattle.milunovesk_c.specs.declared.heard.Heard.{Heard}
 use Rattle.milunovesk_c.specs.declared.seat.Seat.{Seat}
 use Rattle.milunovesk_c.specs.Numbers.{DONE, NO_MEMORY, SHORT_BUFFER, FAULT, NO_ITEM}

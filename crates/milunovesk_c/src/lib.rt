@@ -23,6 +23,7 @@ mod kept;
 mod lining;
 mod loose;
 mod naming;
+mod packets;
 mod seat;
 mod targeting;
 mod widths;
@@ -43,6 +44,7 @@ pub use judged::Judged;
 use kept::Kept;
 pub use lining::mv_debugger_lines;
 pub use naming::{mv_command_name, mv_error_name, mv_fault_text};
+pub use packets::{Found, mv_next_packets};
 use std::alloc::Global;
 pub use targeting::{
     mv_target_accept, mv_target_feed, mv_target_live, mv_target_lose, mv_target_new,

@@ -10,7 +10,7 @@ use crate::handle::Handle;
 use crate::kept::Kept;
 use crate::seat::Seat;
 use crate::{EMPTY, NO_MEMORY, OTHER_KIND};
-use jdwp_tell::turn_text;
+use jdwp_attach::turn_text;
 use jdwp_wire::NoMemory;
 use std::alloc::Global;
 

@@ -5,9 +5,9 @@ ghost use Rattle.milunovesk_c.specs.Askings.{AsksBytes, RefusesBytes, command_in
 ghost use Rattle.milunovesk_c.specs.Seats.{new_seat_in};
 ghost use Rattle.milunovesk_c.specs.Telling.{SeatTurns, known_widths, seat_lines};
 
+use jdwp_attach::turn_text;
 use jdwp_debugger::{Command, Debugger, DebuggerFault, Order, Read, Refused, Ticket};
 use jdwp_layout::layout_of;
-use jdwp_tell::turn_text;
 use jdwp_wire::{DataFault, IdSizes, Limits, NoMemory};
 use std::alloc::Global;
 

@@ -3,6 +3,7 @@
 #![tactic(auto)]
 
 mod capture;
+mod clients;
 mod debugger;
 mod link;
 mod machine;
@@ -11,6 +12,7 @@ mod target;
 mod tests;
 
 pub use capture::first_faulty_line;
+pub use clients::{count_frames, frames_at_breakpoint, set_breakpoint, thread_at};
 pub use debugger::ask_for_frames;
 pub use link::{settle, shown_count, shows_suspended};
 pub use machine::{OneStep, one_step_target};

@@ -9,7 +9,7 @@ ghost use Rattle.milunovesk.specs.Model.Seen.{lowers, seen_moment};
 ghost use Rattle.milunovesk.specs.Model.Tickets.{tickets_to, times};
 ghost use Rattle.milunovesk.specs.Model.World.{World};
 
-use milunovesk::{Link, LinkEvent, Machine, ObjectId, Outcome, Stopped, settles_each_ticket_once};
+use milunovesk::{Link, LinkEvent, Machine, ObjectId, Outcome, Stopped};
 
 /// Lets these events happen, and answers whether the debugger shows the thread as suspended then. Where it does, the thread is suspended in
 /// the target: unless the machine died, the target lost the connection, or a Dispose or a Resume of the thread or of all is unanswered.
@@ -56,6 +56,6 @@ pub fn settle<M: Machine + Drop>(
         ≡ times k (waiting_at link.old.debugger) + times k (tickets_to link.new.debugger.tickets)) }
 {
     link.session();
-    settles_each_ticket_once::<M>();
+    milunovesk::laws::settles_each_ticket_once::<M>();
     link.run(events)
 }

@@ -7,6 +7,7 @@ neither copied nor taken to another thread, and lengths are true.
 
 from __future__ import annotations
 
+from struct import Struct
 from threading import get_ident
 from types import TracebackType
 from typing import List, NamedTuple, Optional, Type, TypeVar
@@ -31,6 +32,8 @@ __all__ = [
     "Heard",
     "NotUtf8",
     "OutOfMemory",
+    "Packet",
+    "Packets",
     "Refused",
     "Request",
     "Target",
@@ -43,6 +46,7 @@ __all__ = [
     "command_name",
     "error_name",
     "fault_text",
+    "packets",
     "show",
 ]
 
@@ -59,6 +63,30 @@ class Verdict(NamedTuple):
     @property
     def text(self) -> str:
         return text_of(self.fault)
+
+
+class Packet(NamedTuple):
+    """A packet. Of a command `set` and `number` say which, of a reply `error` is its error code, 0 for none; what it lacks is None."""
+
+    id: int
+    set: Optional[int]
+    number: Optional[int]
+    error: Optional[int]
+    data: bytes
+
+
+class Packets(NamedTuple):
+    """Packets that stand one behind the other, how many bytes they take, and what is left behind them, one of the constants: no bytes, the
+    beginning of a packet, which calls for more, or the beginning of no packet, and then `fault` says why: 1 to 3."""
+
+    packets: List[Packet]
+    used: int
+    left: int
+    fault: int
+
+    NOTHING = 0
+    BEGINNING = 1
+    FAULT = 3
 
 
 class Waiting(NamedTuple):
@@ -154,6 +182,33 @@ def show(text: str | bytes) -> tuple[str, Verdict]:
         room = needed.value
     _done(answer)
     return buffer.raw[: needed.value].decode(), Verdict(out.fault, out.line)
+
+
+def packets(data: bytes) -> Packets:
+    """The packets in front of the bytes, which begin behind the handshakes: each exactly where one stands."""
+    given = bytes(data)
+    places, out = c.places(256), c.Found()
+    found: List[Packet] = []
+    used = 0
+    while True:
+        c.next_packets(given, used, places, out)
+        found.extend(_packet(given, used + place) for place in places[: out.count])
+        used += out.used
+        if out.left != c.LEFT_PACKET:
+            return Packets(found, used, out.left, out.fault)
+
+
+# a packet's length, id and flags, and the set and number of a command or the two bytes of a reply's error code
+_HEADER = Struct(">IIBBB")
+
+
+def _packet(given: bytes, begin: int) -> Packet:
+    """The whole packet that begins at this place."""
+    length, id, flags, first, second = _HEADER.unpack_from(given, begin)
+    data = given[begin + _HEADER.size : begin + length]
+    if flags == 0:
+        return Packet(id, first, second, None, data)
+    return Packet(id, None, None, first << 8 | second, data)
 
 
 def command_name(set: int, number: int) -> Optional[str]:

@@ -7,6 +7,7 @@ import os
 from typing import Optional
 
 DONE, EMPTY, LIVE, OTHER_KIND, NO_MEMORY, NOT_UTF8, SHORT_BUFFER, REFUSED, FAULT, NO_ITEM = range(10)
+LEFT_PACKET = 2
 MOST_TICKETS = 1024
 
 size_t = c.c_size_t
@@ -15,6 +16,10 @@ flag = c.c_bool
 
 class Handle(c.Structure):
     _fields_ = [("live", c.c_bool), ("at", c.c_void_p)]
+
+
+class Found(c.Structure):
+    _fields_ = [("count", c.c_size_t), ("used", c.c_size_t), ("left", c.c_uint8), ("fault", c.c_uint16)]
 
 
 class Judged(c.Structure):
@@ -61,6 +66,10 @@ def tickets() -> c.Array:
     return (c.c_uint64 * MOST_TICKETS)()
 
 
+def places(room: int) -> c.Array:
+    return (c.c_size_t * room)()
+
+
 _P = c.POINTER
 _H, _FLAG, _SIZE, _U8, _U16, _U32, _U64 = (
     _P(t) for t in (Handle, c.c_bool, c.c_size_t, c.c_uint8, c.c_uint16, c.c_uint32, c.c_uint64)
@@ -71,6 +80,7 @@ _SIGNATURES: dict[str, list[object]] = {
     "mv_version": [],
     "mv_kind": [_H, _U8],
     "mv_free": [_H],
+    "mv_next_packets": [c.c_void_p, c.c_size_t, _SIZE, c.c_size_t, _P(Found)],
     "mv_command_name": [c.c_uint8, c.c_uint8, _OUT, c.c_size_t, _SIZE],
     "mv_error_name": [c.c_uint16, _OUT, c.c_size_t, _SIZE],
     "mv_fault_text": [c.c_uint16, _OUT, c.c_size_t, _SIZE],
@@ -117,6 +127,12 @@ def _open() -> c.CDLL:
 
 
 library = _open()
+
+
+def next_packets(given: bytes, used: int, places: c.Array, out: Found) -> None:
+    """Tells the places of packets, counted from a place of the bytes on."""
+    at = c.cast(c.c_char_p(given), c.c_void_p).value
+    library.mv_next_packets(at + used, len(given) - used, places, len(places), out)
 
 
 def text(name: str, *arguments: int) -> Optional[str]:

@@ -7,7 +7,7 @@ import threading
 import unittest
 
 import milunovesk
-from milunovesk import Debugger, Handled, Heard, Target
+from milunovesk import Debugger, Handled, Heard, Packets, Target
 
 EXAMPLES = os.path.join(os.path.dirname(__file__), "..", "..", "..", "examples")
 
@@ -61,6 +61,23 @@ class Captures(unittest.TestCase):
         self.assertIsNone(milunovesk.fault_text(99))
         with self.assertRaises(milunovesk.NotUtf8):
             milunovesk.check(b"\xff")
+
+
+class Bytes(unittest.TestCase):
+    # length, id, flags, and a command's set and number or a reply's error code, as the specification's "Packets" has them
+    COMMAND = bytes.fromhex("0000000c 01020304 00 0b 06 63")
+    REPLY = bytes.fromhex("0000000b 00000005 80 0014")
+
+    def test_packets(self) -> None:
+        found = milunovesk.packets(self.COMMAND + self.REPLY + b"\0\0\0")
+        self.assertEqual(found.packets, [(0x01020304, 11, 6, None, b"c"), (5, None, None, 20, b"")])
+        self.assertEqual(found[1:], (23, Packets.BEGINNING, 0))
+        self.assertEqual(milunovesk.packets(b""), ([], 0, Packets.NOTHING, 0))
+        self.assertEqual(milunovesk.packets(self.REPLY + b"\0\0\0\n")[1:], (11, Packets.FAULT, 1))
+        # more than one call tells
+        many = milunovesk.packets(self.COMMAND * 257)
+        self.assertEqual((len(many.packets), many.used, many.left), (257, 257 * 12, Packets.NOTHING))
+        self.assertEqual(many.packets[256].data, b"c")
 
 
 class Sessions(unittest.TestCase):

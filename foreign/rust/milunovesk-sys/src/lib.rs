@@ -36,6 +36,15 @@ pub struct Framed {
 
 #[repr(C)]
 #[derive(Default)]
+pub struct Found {
+    pub count: usize,
+    pub used: usize,
+    pub left: u8,
+    pub fault: u16,
+}
+
+#[repr(C)]
+#[derive(Default)]
 pub struct Judged {
     pub yes: bool,
     pub fault: u16,
@@ -94,6 +103,13 @@ extern "C" {
     pub fn mv_free(handle: *mut Handle);
 
     pub fn mv_next_packet(bytes: *const u8, length: usize, out: *mut Framed) -> u32;
+    pub fn mv_next_packets(
+        bytes: *const u8,
+        length: usize,
+        places: *mut usize,
+        room: usize,
+        out: *mut Found,
+    ) -> u32;
 
     pub fn mv_command_name(
         set: u8,

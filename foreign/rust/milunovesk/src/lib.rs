@@ -5,9 +5,11 @@
 
 mod debugger;
 mod handle;
+mod packets;
 mod target;
 
 pub use debugger::{Debugger, Heard, Request, Thread, Unanswered, Widths};
+pub use packets::{packets, Packet, PacketKind, Packets, Rest};
 pub use target::{Handled, Stepped, Target, Unmade};
 
 use milunovesk_sys as sys;

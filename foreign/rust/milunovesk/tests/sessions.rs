@@ -1,7 +1,7 @@
 //! Each call of the crate once on its way, and each failure.
 use milunovesk::{
-    check, command_name, error_name, fault_text, show, CaptureFault, Debugger, Failure, Handled,
-    Heard, Stepped, Target, Thread, Unmade,
+    check, command_name, error_name, fault_text, packets, show, CaptureFault, Debugger, Failure,
+    Handled, Heard, Packet, PacketKind, Rest, Stepped, Target, Thread, Unmade,
 };
 use std::fs;
 
@@ -55,6 +55,41 @@ fn captures_are_judged_and_shown() {
             line: 1
         }))
     );
+}
+
+/// A command (length, id, flags, set, number, data) and a reply (length, id, flags, error code), as the specification's "Packets" has them.
+const COMMAND: [u8; 12] = [0, 0, 0, 12, 1, 2, 3, 4, 0, 11, 6, 99];
+const REPLY: [u8; 11] = [0, 0, 0, 11, 0, 0, 0, 5, 0x80, 0, 20];
+
+#[test]
+fn packets_are_told_in_order() {
+    let bytes = [&COMMAND[..], &REPLY[..], &[0, 0, 0]].concat();
+    let mut found = packets(&bytes);
+    let command = Packet {
+        id: 0x01020304,
+        kind: PacketKind::Command { set: 11, number: 6 },
+        data: &[99],
+    };
+    let reply = Packet {
+        id: 5,
+        kind: PacketKind::Reply { error: 20 },
+        data: &[],
+    };
+    assert_eq!((found.rest(), found.next()), (None, Some(command)));
+    assert_eq!((found.used(), found.next()), (12, Some(reply)));
+    assert_eq!((found.used(), found.next()), (23, None));
+    assert_eq!(found.rest(), Some(Rest::Beginning));
+    assert_eq!(packets(&[]).rest(), Some(Rest::Nothing));
+    assert_eq!(packets(&[0, 0, 0, 10]).rest(), Some(Rest::Fault(1)));
+    // more than one call tells
+    let many = COMMAND.repeat(129);
+    let mut found = packets(&many);
+    assert_eq!(found.by_ref().filter(|it| *it == command).count(), 129);
+    assert_eq!(
+        (found.used(), found.rest()),
+        (129 * 12, Some(Rest::Nothing))
+    );
+    assert_eq!(packets(&COMMAND.repeat(64)).count(), 64);
 }
 
 #[test]

@@ -2,7 +2,7 @@ use Rattle.std.proofs.Common.{◌++◌, ◌∷◌, inl, refl, rules}
 use Rattle.jdwp_attach.specs.Runs.{at}
 use Rattle.jdwp_attach.proofs.Ending.{is-of-pair, pair-ends}
 use Rattle.jdwp_attach.proofs.Moves.{begins-line, if-err, line-goes, next-is, on-both, on-ok, on-three, silent-goes}
-use Rattle.jdwp_plan.specs.declared.plan_line.PlanLine.TheVariants as line
+use Rattle.jdwp_attach.specs.declared.plans.plan_line.PlanLine.TheVariants as line
 use Rattle.jdwp_attach.proofs.RefusedLines.{err-both, pair-tells, turns-tell}
 use Rattle.jdwp_attach.proofs.attaching.carry_out.Goals as goal
 

@@ -1,5 +1,5 @@
 use Rattle.std.proofs.Common.{◌+◌, [], inr, refl, arith}
-use Rattle.jdwp_pipe.specs.Story.{flushed}
+use Rattle.jdwp_end.specs.Story.{flushed}
 use Rattle.jdwp_attach.specs.Runs.{at}
 use Rattle.jdwp_attach.proofs.Ending.{line-ends}
 use Rattle.jdwp_attach.proofs.Moves.{all-go, begins-all, begins-none, line-goes-on}

@@ -1,6 +1,6 @@
 use Rattle.std.proofs.Common.{refl}
 use Rattle.std.specs.String.{string_bytes}
-use Rattle.jdwp_plan.specs.declared.plan_line.PlanLine.TheVariants as line
+use Rattle.jdwp_attach.specs.declared.plans.plan_line.PlanLine.TheVariants as line
 use Rattle.jdwp_attach.proofs.Ending.{line-memory, mirror-part}
 use Rattle.jdwp_attach.proofs.attaching.tell_mirror.Goals as goal
 

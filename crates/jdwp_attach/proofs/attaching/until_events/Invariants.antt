@@ -1,6 +1,6 @@
 use Rattle.std.proofs.Common.{◌≡◌, true, is_some}
 use Rattle.jdwp_attach.specs.PlanWaits.{Counts, IsNextLine}
-use Rattle.jdwp_plan.specs.declared.plan_line.PlanLine.TheVariants as line
+use Rattle.jdwp_attach.specs.declared.plans.plan_line.PlanLine.TheVariants as line
 use Rattle.jdwp_attach.specs.Runs.{GoesOn, IsReady, at}
 use Rattle.jdwp_attach.proofs.attaching.until_events.Given as goal
 

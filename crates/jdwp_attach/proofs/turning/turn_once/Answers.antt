@@ -2,12 +2,12 @@ use Rattle.std.proofs.Common.{◌≡◌, ◌∙◌, ◌-◌, ◌+◌, ◌++◌, 
 use Rattle.jdwp_end.specs.Ends.{front_of}
 use Rattle.jdwp_debugger.specs.Debuggers.{with_fed, with_taken}
 use Rattle.jdwp_debugger.specs.DebuggerTurns.{read_meaning}
-use Rattle.jdwp_pipe.specs.Story.{with_written}
+use Rattle.jdwp_end.specs.Story.{with_written}
 use Rattle.jdwp_attach.specs.OwnCounts.{AsksDue, due_behind}
 use Rattle.jdwp_attach.specs.PlanAsks.{asks}
 use Rattle.jdwp_attach.specs.PlanWaits.{Counts, composites_of}
 use Rattle.jdwp_attach.specs.Runs.{Finishes, at}
-use Rattle.jdwp_tell.specs.Telling.{lines_of}
+use Rattle.jdwp_attach.specs.Telling.{lines_of}
 use Rattle.jdwp_attach.proofs.Counting.{counts-fit, counts-kept, counts-later, counts-turned, due-keeps}
 use Rattle.jdwp_attach.proofs.Ending.{count-wants, limit-ends, moved-ends, printed-so, read-ends, turn-ends}
 use Rattle.jdwp_attach.proofs.Moves.{due-closed, due-lines, due-moves, due-opens, due-sizes, if-err, moved-goes, on-ok, read-goes, taken-ready}

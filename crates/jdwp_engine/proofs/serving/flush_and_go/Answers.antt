@@ -1,5 +1,5 @@
 use Rattle.std.proofs.Common.{◌≡◌, refl, rules}
-use Rattle.jdwp_pipe.specs.Story.{flushed}
+use Rattle.jdwp_end.specs.Story.{flushed}
 use Rattle.jdwp_engine.specs.Sessions.{CantFlush}
 use Rattle.jdwp_engine.proofs.Rounding.{flushed-last}
 use Rattle.jdwp_engine.proofs.Runs.{flush-ends, flushed-ends, flushed-goes}

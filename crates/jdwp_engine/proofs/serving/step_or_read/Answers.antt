@@ -1,5 +1,5 @@
 use Rattle.std.proofs.Common.{Err, false, refl, true, Ok}
-use Rattle.jdwp_engine.specs.declared.serving.Next.TheVariants.{Ends}
+use Rattle.jdwp_engine.specs.declared.serving.AfterRound.TheVariants.{Ends}
 use Rattle.jdwp_engine.specs.Sessions.{Reads, WantsToStep, Writes}
 use Rattle.jdwp_engine.proofs.Rounding.{moved, reads-last, starved-last, steps-last}
 use Rattle.jdwp_engine.proofs.Runs.{memory-ends, memory-goes, read-goes, read-next-ends, steps-ends, steps-goes}

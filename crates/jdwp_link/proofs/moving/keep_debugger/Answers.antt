@@ -1,6 +1,6 @@
 use Rattle.std.proofs.Common.{◌≡◌, ◌≤◌, ◌-◌, ◌++◌, ◌∙◌, ap, arith, length, take}
 use Rattle.std.proofs.lemmas.List.{length-append, length-take-le}
-use Rattle.byte_queue.specs.Queue.{Queue}
+use Rattle.jdwp_link.specs.Queue.{Queue}
 use Rattle.jdwp_debugger.specs.Debuggers as debuggers
 use Rattle.jdwp_link.proofs.Pieces.{all-left, all-taken, buffer-front, keep-debugger-more, keep-debugger-start, still-waits}
 use Rattle.jdwp_link.proofs.moving.keep_debugger.Goals as goal

@@ -1,6 +1,6 @@
 use Rattle.std.proofs.Common.{◌≡◌, ap, refl, rules}
 use Rattle.jdwp_engine.proofs.Runs.{flush-ends, flushed-goes}
-use Rattle.jdwp_live_pipe.specs.LiveStory.{LiveStory, flushed}
+use Rattle.jdwp_live.specs.LiveStory.{LiveStory, flushed}
 use Rattle.jdwp_live.specs.LiveRounds.{CantFlush}
 use Rattle.jdwp_live.proofs.Living.{flushed-over}
 use Rattle.jdwp_live.proofs.Rounding.{behind-last}

@@ -1,4 +1,4 @@
-use Rattle.jdwp_pipe.specs.Story.{flushed}
+use Rattle.jdwp_end.specs.Story.{flushed}
 use Rattle.jdwp_engine.proofs.Runs.{kept-by, kept-ends, lost-by, lost-ends, refused-ends}
 use Rattle.jdwp_live.proofs.serving.lose_what_is_kept.Goals as goal
 

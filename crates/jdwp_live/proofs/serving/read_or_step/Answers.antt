@@ -2,8 +2,8 @@ use Rattle.std.proofs.Common.{◌≡◌, ◌∙◌, [], Some, ap, refl, sym}
 use Rattle.jdwp_target.specs.Deeds.{acts_in}
 use Rattle.jdwp_target.specs.Standings.{handled}
 use Rattle.jdwp_target.specs.Targets.{Target}
-use Rattle.jdwp_live_pipe.specs.declared.pipe.Patience.TheVariants.{Step}
-use Rattle.jdwp_live_pipe.specs.LiveStory.{LiveStory, with_read}
+use Rattle.jdwp_live.specs.declared.pipes.pipe.Patience.TheVariants.{Step}
+use Rattle.jdwp_live.specs.LiveStory.{LiveStory, with_read}
 use Rattle.jdwp_live.proofs.Established.{established-where, greeted-at}
 use Rattle.jdwp_live.proofs.Living.{nothing-on, nothing-over, read-on, read-over}
 use Rattle.jdwp_live.proofs.Rounding.{behind-nothing, reads-first, reads-last}

@@ -1,6 +1,6 @@
 use Rattle.std.proofs.Common.{◌∙◌, Err, Ok, ap, false, refl, true}
 use Rattle.jdwp_target.specs.Targets.{Target}
-use Rattle.jdwp_live_pipe.specs.declared.pipe.Patience.TheVariants.{Forever}
+use Rattle.jdwp_live.specs.declared.pipes.pipe.Patience.TheVariants.{Forever}
 use Rattle.jdwp_live.specs.LiveRounds.{Waits, WantsToStep, Writes}
 use Rattle.jdwp_live.proofs.Established.{steps-turns}
 use Rattle.jdwp_live.proofs.Living.{memory-on, memory-over, read-on, read-over, steps-go, steps-over}

@@ -1,6 +1,6 @@
 use Rattle.std.proofs.Common.{IfErr, OnOk, refl, subst, sym}
 use Rattle.jdwp_model.specs.Events as events
-use Rattle.jdwp_plan.specs.declared.plan_line.PlanLine.{PlanLine}
+use Rattle.jdwp_attach.specs.declared.plans.plan_line.PlanLine.{PlanLine}
 use Rattle.jdwp_pair.specs.Lines.{CarriesOut, EndsLine}
 use Rattle.jdwp_pair.proofs.Keeping.{aside-one}
 use Rattle.jdwp_pair.proofs.Leading.{if-err, on-ok}

@@ -1,5 +1,5 @@
 use Rattle.std.proofs.Common.{sym, subst, ap, ◌∙◌}
-use Rattle.jdwp_pipe.specs.Story.{Story}
+use Rattle.jdwp_end.specs.Story.{Story}
 use Rattle.jdwp_pair.specs.declared.ended.PairEnded.{PairEnded}
 use Rattle.jdwp_pair.specs.Connections.{is_disconnected}
 use Rattle.jdwp_pair.specs.PlanRuns.{PairsBy, Leaves, Stays}

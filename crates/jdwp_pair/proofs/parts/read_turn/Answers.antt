@@ -1,7 +1,7 @@
 use Rattle.std.proofs.Common.{◌≡◌, ◌+◌, true, false, List, inr, refl, subst, sym, ap, ◌∙◌, rules}
 use Rattle.jdwp_debugger.specs.Debuggers.{Debugger}
 use Rattle.jdwp_link.specs.declared.events.Outcome.{Outcome}
-use Rattle.jdwp_pipe.specs.Story.{with_written}
+use Rattle.jdwp_end.specs.Story.{with_written}
 use Rattle.jdwp_pair.specs.Calls.{at}
 use Rattle.jdwp_pair.specs.Events.{counted, seen_in}
 use Rattle.jdwp_pair.specs.Telling.{FailsToTell, turn_text}

@@ -1,6 +1,6 @@
 use Rattle.std.proofs.Common.{◌≡◌, List, ℕ, subst}
 use Rattle.std.specs.String.{string_bytes}
-use Rattle.jdwp_pipe.specs.Story.{with_written}
+use Rattle.jdwp_end.specs.Story.{with_written}
 use Rattle.jdwp_pair.specs.Telling.{FailsToTell}
 use Rattle.jdwp_pair.proofs.Keeping.{known-fails}
 use Rattle.jdwp_pair.proofs.Leading.{if-err, on-ok}

@@ -1,7 +1,7 @@
 use Rattle.std.proofs.Common.{Option, subst}
 use Rattle.std.specs.String.{string_bytes}
 use Rattle.jdwp_mirror.specs.Mirrors.{Mirror}
-use Rattle.jdwp_tell.specs.Telling.{TellsMirror}
+use Rattle.jdwp_attach.specs.Telling.{TellsMirror}
 use Rattle.jdwp_debugger.specs.Debuggers.{Debugger}
 use Rattle.jdwp_pair.specs.Followers.{Followed}
 use Rattle.jdwp_pair.proofs.Keeping.{tells-apart, tells-one}

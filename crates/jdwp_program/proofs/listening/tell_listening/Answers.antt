@@ -12,7 +12,7 @@ returns-in-Ok-clause-leaves g c =
     let whole : take c.print.result.0 text ≡ text = take_all c.print.result.0 text (omega (arith, full)) in
     let is : text ≡ listening_line c.args.port = search rules in
     let all = rw (is) at (rw (whole) at c.print.ensures.appends) in
-    λ status. inr (inr (inr (c.args.port, inl all)))
+    λ status. inr (inr (inr (inl (c.args.port, inl all))))
 
 pub returns-clause-tells : goal.returns-clause-tells
 returns-clause-tells g c = (c.print.result.0, search rules, search rules)
@@ -20,4 +20,4 @@ returns-clause-tells g c = (c.print.result.0, search rules, search rules)
 pub returns-clause-leaves : goal.returns-clause-leaves
 returns-clause-leaves g c =
     let part : AppendsPart (g.O.Write.contents c.args.out.now) (g.O.Write.contents c.print.new.out) (listening_line c.args.port) = (c.print.result.0, search rules, search rules) in
-    inr (inr (inr (c.args.port, inr (refl, part))))
+    inr (inr (inr (inl (c.args.port, inr (refl, part)))))

@@ -7,5 +7,5 @@ returns-then-not-flush_all-clause-fails g c = λ is_false.
     let i = c.self.inside in
     let all = c.write_out.ensures.all c.if-not-write_out.false in
     rw (← c.self.view_is)
-    (puts-part g.P.Pipe.story (client_of i.debugger i.pipe i.kept.events.items i.kept.answers.items i.sent i.lost i.most_events) c.write_out.new.end c.write_out.new.pipe c.flush_all.new.pipe all.0 all.1
+    (puts-part g.P.Pipe.story (client_of i.debugger i.pipe i.kept.events.items i.kept.answers.items.items i.sent i.lost i.most_events) c.write_out.new.end c.write_out.new.pipe c.flush_all.new.pipe all.0 all.1
     (c.flush_all.ensures.fails c.if-not-flush_all.true))

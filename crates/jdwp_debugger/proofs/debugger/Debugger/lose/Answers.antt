@@ -7,6 +7,8 @@ use Rattle.jdwp_debugger.specs.DebuggersKept.{view_of}
 use Rattle.jdwp_debugger.specs.DebuggerTurns.{reading_of}
 use Rattle.jdwp_debugger.proofs.DebuggerRuns.{ran-lost}
 use Rattle.jdwp_debugger.proofs.Keeping.{distinct-none, few-tickets}
+use Rattle.jdwp_debugger.specs.Protocol.{LosesEach}
+use Rattle.jdwp_debugger.proofs.ProtocolSessions.{loses-each}
 use Rattle.jdwp_debugger.proofs.debugger.Debugger.lose.Goals as goal
 
 pub invariant_of-self : goal.invariant_of-self
@@ -42,3 +44,8 @@ returns-clause-few c =
     let all : length c.of-lost.result ≡ length (tickets_of ps) = ap (λ (ks : List Ticket). length ks) c.of-lost.ensures in
     let most = ap (λ (d : Debugger). d.end.limits.pending) c.self.view_is in
     omega (arith, all, most, few-tickets ps, c.self.invariant.few)
+
+pub returns-clause-each : goal.returns-clause-each
+returns-clause-each c =
+    let ps = c.self.inside.pending in
+    subst (λ (d : Debugger). LosesEach d.pending c.of-lost.result) c.self.view_is (subst (λ (ks : List Ticket). LosesEach ps ks) (sym c.of-lost.ensures) (loses-each ps))

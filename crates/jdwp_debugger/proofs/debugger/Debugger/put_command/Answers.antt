@@ -8,7 +8,9 @@ use Rattle.jdwp_debugger.specs.News.{widths_by}
 use Rattle.jdwp_debugger.proofs.Followed.{asked-follows, put-counts, put-none}
 use Rattle.jdwp_end.specs.declared.phase.Phase.TheVariants.{AwaitingHandshake, Established}
 use Rattle.jdwp_end.specs.Ends.{End, with_enqueued}
-use Rattle.jdwp_debugger.specs.Asking.{IsNextFree, asked, command_bytes, id_after, is_outstanding, refusal_of_ask}
+use Rattle.jdwp_wire.specs.Frames.{IsPacket}
+use Rattle.jdwp_action.specs.CommandPackets.{carried_bytes}
+use Rattle.jdwp_debugger.specs.Asking.{IsNextFree, asked, command_bytes, command_header, id_after, is_outstanding, refusal_of_ask}
 use Rattle.jdwp_debugger.specs.Debuggers.{AreDistinct, AreOwn, Asked, Begins, Debugger}
 use Rattle.jdwp_debugger.specs.DebuggersKept.{view_of}
 use Rattle.jdwp_debugger.specs.DebuggerTurns.{reading_of}
@@ -22,20 +24,19 @@ pub invariant_of-self-2 : goal.invariant_of-self-2
 invariant_of-self-2 c =
     let s = c.self.inside in
     let kept = c.self.invariant in
-    let leaves = c.in_ok-packet.ensures.ok in
+    let leaves = c.in_ok-write_packet.ensures.ok in
     let id = c.next_free-id.result in
     let ps = s.pending in
     let p : Asked = record { id = id; ticket = Some (record { 0 = s.tickets + 1 }); command = c.args.command } in
     let end : End = with_enqueued (command_bytes leaves.widths id c.args.command) s.end in
     let asked : c.enqueue.new.self ≡ end = c.enqueue.ensures ∙ ap (λ (b : List ℕ). with_enqueued b s.end) (c.deref.ensures.value ∙ leaves.bytes_are) in
-    let known = ap (λ (d : Debugger). d.sizes) c.self.view_is ∙ leaves.known in
+    let known = leaves.known in
     let pushed : c.push.new.self ≡ ps ++ p ∷ [] = search rules in
-    let less : length c.args.self.now.pending < c.args.self.now.end.limits.pending = leaves.few in
-    let room : length ps < s.end.limits.pending = subst (λ (d : Debugger). length d.pending < d.end.limits.pending) (sym c.self.view_is) less in
+    let room : length ps < s.end.limits.pending = leaves.few in
     let few : length c.push.new.self ≤ s.end.limits.pending = omega (arith, room, ap (λ (qs : List Asked). length qs) pushed, length-append ps (p ∷ [])) in
     let free : is_outstanding ps id ≡ false = c.next_free-id.ensures.free in
-    let phase : s.end.phase ≡ Established = asked-established (view_of s) c.args.command leaves.widths (subst (λ (d : Debugger). refusal_of_ask d c.args.command ≡ None) (sym c.self.view_is) leaves.unrefused) known kept.begins in
-    let noted : c.note_put.new.ledger ≡ ledger_put (put_of c.args.command) s.ledger = c.note_put.ensures ∙ ap (λ (k : Put). ledger_put k s.ledger) c.of-put.ensures in
+    let phase : s.end.phase ≡ Established = asked-established (view_of s) c.args.command leaves.widths leaves.unrefused known kept.begins in
+    let noted : c.note_put.new.ledger ≡ ledger_put (put_of c.args.command) s.ledger = c.note_put.ensures ∙ c.put_where_followed-put.ensures in
     let follows : following_of c.note_put.new.ledger s.sizes c.push.new.self ≡ put_to leaves.widths c.args.command (following_of s.ledger s.sizes ps) =
     asked-follows s.ledger c.note_put.new.ledger s.sizes leaves.widths ps c.push.new.self p known pushed noted in
     rw asked
@@ -64,29 +65,32 @@ push-requires c = c.next_free-id.ensures.free
 pub returns-clause-ok : goal.returns-clause-ok
 returns-clause-ok c =
     let s = c.self.inside in
-    let leaves = c.in_ok-packet.ensures.ok in
+    let leaves = c.in_ok-write_packet.ensures.ok in
     let old = c.args.self.now in
     let command = c.args.command in
     let id = c.next_free-id.result in
     let begins : old.end.phase ≡ AwaitingHandshake → Begins old = subst (λ (d : Debugger). d.end.phase ≡ AwaitingHandshake → Begins d) c.self.view_is c.self.invariant.begins in
-    let established = asked-established old command leaves.widths leaves.unrefused leaves.known begins in
+    let unrefused : refusal_of_ask old command ≡ None = subst (λ (d : Debugger). refusal_of_ask d command ≡ None) c.self.view_is leaves.unrefused in
+    let known = sym (ap (λ (d : Debugger). d.sizes) c.self.view_is) ∙ leaves.known in
+    let sendable = subst (λ (d : Debugger). IsPacket d.end.limits.packet (command_header leaves.widths id command) (carried_bytes leaves.widths command.carried)) c.self.view_is leaves.sendable in
+    let established = asked-established old command leaves.widths unrefused known begins in
     let p : Asked = record { id = id; ticket = Some (record { 0 = s.tickets + 1 }); command = command } in
     let end : c.enqueue.new.self ≡ with_enqueued (command_bytes leaves.widths id command) s.end = c.enqueue.ensures ∙ ap (λ (b : List ℕ). with_enqueued b s.end) (c.deref.ensures.value ∙ leaves.bytes_are) in
     let pushed : c.push.new.self ≡ s.pending ++ p ∷ [] = search rules in
-    let noted : c.note_put.new.ledger ≡ ledger_put (put_of command) s.ledger = c.note_put.ensures ∙ ap (λ (k : Put). ledger_put k s.ledger) c.of-put.ensures in
+    let noted : c.note_put.new.ledger ≡ ledger_put (put_of command) s.ledger = c.note_put.ensures ∙ c.put_where_followed-put.ensures in
     let next : IsNextFree old.pending old.next_id id = subst (λ (d : Debugger). IsNextFree d.pending d.next_id id) c.self.view_is c.next_free-id.ensures in
     let whole : record (view_of s) { end = c.enqueue.new.self; pending = c.push.new.self; next_id = id_after id 1; tickets = s.tickets + 1; ledger = c.note_put.new.ledger } ≡ asked leaves.widths id command (view_of s) =
     (λ j. record (view_of s) { end = end j; pending = pushed j; next_id = id_after id 1; tickets = s.tickets + 1; ledger = noted j }) in (
-      leaves.unrefused,
+      unrefused,
       ap (λ (d : Debugger). d.tickets + 1) c.self.view_is,
       record {
         established = established;
         widths = leaves.widths;
-        known = leaves.known;
+        known = known;
         id = id;
         next = next;
         encoded = leaves.encoded;
-        sendable = leaves.sendable;
+        sendable = sendable;
         is = whole ∙ ap (λ (d : Debugger). asked leaves.widths id command d) c.self.view_is;
       },
     )

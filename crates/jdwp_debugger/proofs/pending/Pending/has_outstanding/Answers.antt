@@ -3,4 +3,4 @@ use Rattle.jdwp_debugger.proofs.Settled.{has_place}
 use Rattle.jdwp_debugger.proofs.pending.Pending.has_outstanding.Goals as goal
 
 pub returns : goal.returns
-returns c = c.is_some.ensures ∙ ap is_some c.place_under.ensures.place ∙ has_place c.args.id c.args.self.now
+returns c = c.is_some.ensures ∙ ap is_some c.found_under.ensures.place ∙ has_place c.args.id c.args.self.now

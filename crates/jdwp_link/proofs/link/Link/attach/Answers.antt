@@ -12,7 +12,7 @@ pub invariant_of-self : goal.invariant_of-self
 invariant_of-self g c =
     let s = c.self.inside in
     let b = c.begin_session-begun in
-    (attach-done g.M.Machine.meaning c.laws.ensures.worlds (link_of s.target s.debugger s.to_target.bytes s.to_debugger.bytes s.did) b.new.target b.new.debugger s.to_target c.clear_where.new.queue s.to_debugger c.clear_where-2.new.queue
+    (attach-done g.M.Machine.meaning c.of_sessions.ensures.worlds (link_of s.target s.debugger s.to_target.bytes s.to_debugger.bytes s.did) b.new.target b.new.debugger s.to_target c.clear_where.new.queue s.to_debugger c.clear_where-2.new.queue
     b.result c.self.invariant refl refl b.ensures.when b.ensures.begun b.ensures.same c.clear_where.ensures c.clear_where-2.ensures c.keeps.ensures.target c.keeps.ensures.debugger).right
 
 pub returns : goal.returns
@@ -20,5 +20,5 @@ returns g c =
     let s = c.self.inside in
     let b = c.begin_session-begun in
     rw (← c.self.view_is)
-    ((attach-done g.M.Machine.meaning c.laws.ensures.worlds (link_of s.target s.debugger s.to_target.bytes s.to_debugger.bytes s.did) b.new.target b.new.debugger s.to_target c.clear_where.new.queue s.to_debugger c.clear_where-2.new.queue
+    ((attach-done g.M.Machine.meaning c.of_sessions.ensures.worlds (link_of s.target s.debugger s.to_target.bytes s.to_debugger.bytes s.did) b.new.target b.new.debugger s.to_target c.clear_where.new.queue s.to_debugger c.clear_where-2.new.queue
     b.result c.self.invariant refl refl b.ensures.when b.ensures.begun b.ensures.same c.clear_where.ensures c.clear_where-2.ensures c.keeps.ensures.target c.keeps.ensures.debugger).goes)

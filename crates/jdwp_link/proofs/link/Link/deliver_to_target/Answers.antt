@@ -10,7 +10,7 @@ invariant_of-self g c =
     let s = c.self.inside in
     let q = c.queue_to_target-kept in
     (to-target-done g.M.Machine.meaning (link_of s.target s.debugger s.to_target.bytes s.to_debugger.bytes s.did) s.to_target q.new.queue q.new.target c.pieces_to_target.new.target c.pieces_to_target.new.debugger c.args.most q.result c.min-left.result
-    c.waiting.result c.room.result s.to_debugger.capacity c.laws.ensures.finds c.self.invariant refl q.ensures.count q.ensures.left q.ensures.fed c.waiting.ensures.count c.room.ensures.room (c.min-left.ensures ∙ ap (λ k. min k (c.args.most - q.result)) c.min.ensures)
+    c.waiting.result c.room.result s.to_debugger.capacity c.of_sessions.ensures.finds c.self.invariant refl q.ensures.count q.ensures.left q.ensures.fed c.waiting.ensures.count c.room.ensures.room (c.min-left.ensures ∙ ap (λ k. min k (c.args.most - q.result)) c.min.ensures)
     c.pieces_to_target.ensures.taken c.pieces_to_target.ensures.fed c.keeps.ensures.target c.keeps.ensures.debugger).done.right
 
 pub returns-clause-goes : goal.returns-clause-goes
@@ -19,7 +19,7 @@ returns-clause-goes g c =
     let q = c.queue_to_target-kept in
     rw (← c.self.view_is)
     ((to-target-done g.M.Machine.meaning (link_of s.target s.debugger s.to_target.bytes s.to_debugger.bytes s.did) s.to_target q.new.queue q.new.target c.pieces_to_target.new.target c.pieces_to_target.new.debugger c.args.most q.result c.min-left.result
-    c.waiting.result c.room.result s.to_debugger.capacity c.laws.ensures.finds c.self.invariant refl q.ensures.count q.ensures.left q.ensures.fed c.waiting.ensures.count c.room.ensures.room (c.min-left.ensures ∙ ap (λ k. min k (c.args.most - q.result)) c.min.ensures)
+    c.waiting.result c.room.result s.to_debugger.capacity c.of_sessions.ensures.finds c.self.invariant refl q.ensures.count q.ensures.left q.ensures.fed c.waiting.ensures.count c.room.ensures.room (c.min-left.ensures ∙ ap (λ k. min k (c.args.most - q.result)) c.min.ensures)
     c.pieces_to_target.ensures.taken c.pieces_to_target.ensures.fed c.keeps.ensures.target c.keeps.ensures.debugger).done.goes)
 
 pub returns-clause-delivers : goal.returns-clause-delivers
@@ -28,7 +28,7 @@ returns-clause-delivers g c =
     let q = c.queue_to_target-kept in
     rw (← c.self.view_is)
     ((to-target-done g.M.Machine.meaning (link_of s.target s.debugger s.to_target.bytes s.to_debugger.bytes s.did) s.to_target q.new.queue q.new.target c.pieces_to_target.new.target c.pieces_to_target.new.debugger c.args.most q.result c.min-left.result
-    c.waiting.result c.room.result s.to_debugger.capacity c.laws.ensures.finds c.self.invariant refl q.ensures.count q.ensures.left q.ensures.fed c.waiting.ensures.count c.room.ensures.room (c.min-left.ensures ∙ ap (λ k. min k (c.args.most - q.result)) c.min.ensures)
+    c.waiting.result c.room.result s.to_debugger.capacity c.of_sessions.ensures.finds c.self.invariant refl q.ensures.count q.ensures.left q.ensures.fed c.waiting.ensures.count c.room.ensures.room (c.min-left.ensures ∙ ap (λ k. min k (c.args.most - q.result)) c.min.ensures)
     c.pieces_to_target.ensures.taken c.pieces_to_target.ensures.fed c.keeps.ensures.target c.keeps.ensures.debugger).delivers)
 
 pub returns-clause-carried : goal.returns-clause-carried
@@ -37,5 +37,5 @@ returns-clause-carried g c =
     let q = c.queue_to_target-kept in
     rw (← c.self.view_is)
     (λ free. c.pieces_to_target.ensures.carried free ∙ ap (λ b. with_carried side.Debugger b (g.W.Way.story c.args.way.now)) (to-target-done g.M.Machine.meaning (link_of s.target s.debugger s.to_target.bytes s.to_debugger.bytes s.did) s.to_target q.new.queue q.new.target c.pieces_to_target.new.target c.pieces_to_target.new.debugger c.args.most q.result c.min-left.result
-    c.waiting.result c.room.result s.to_debugger.capacity c.laws.ensures.finds c.self.invariant refl q.ensures.count q.ensures.left q.ensures.fed c.waiting.ensures.count c.room.ensures.room (c.min-left.ensures ∙ ap (λ k. min k (c.args.most - q.result)) c.min.ensures)
+    c.waiting.result c.room.result s.to_debugger.capacity c.of_sessions.ensures.finds c.self.invariant refl q.ensures.count q.ensures.left q.ensures.fed c.waiting.ensures.count c.room.ensures.room (c.min-left.ensures ∙ ap (λ k. min k (c.args.most - q.result)) c.min.ensures)
     c.pieces_to_target.ensures.taken c.pieces_to_target.ensures.fed c.keeps.ensures.target c.keeps.ensures.debugger).carried)

@@ -10,7 +10,7 @@ pub invariant_of-self : goal.invariant_of-self
 invariant_of-self g c =
     let s = c.self.inside in
     let t = c.lose_and_tell in
-    (loses-done g.M.Machine.meaning c.laws.ensures.worlds (link_of s.target s.debugger s.to_target.bytes s.to_debugger.bytes s.did) s.to_target t.new.queue t.new.debugger s.to_debugger.capacity c.self.invariant refl
+    (loses-done g.M.Machine.meaning c.of_sessions.ensures.worlds (link_of s.target s.debugger s.to_target.bytes s.to_debugger.bytes s.did) s.to_target t.new.queue t.new.debugger s.to_debugger.capacity c.self.invariant refl
     t.ensures.debugger t.ensures.queue c.keeps-2.ensures.target c.keeps-2.ensures.debugger).right
 
 pub returns-clause-ok : goal.returns-clause-ok
@@ -22,6 +22,6 @@ returns-clause-ok g c =
       lost_of (tickets_of s.debugger.pending),
       t.ensures.told ∙ ap (λ os. os ++ lost_of (tickets_of s.debugger.pending)) same,
       rw (← c.self.view_is)
-          ((loses-done g.M.Machine.meaning c.laws.ensures.worlds (link_of s.target s.debugger s.to_target.bytes s.to_debugger.bytes s.did) s.to_target t.new.queue t.new.debugger s.to_debugger.capacity c.self.invariant refl
+          ((loses-done g.M.Machine.meaning c.of_sessions.ensures.worlds (link_of s.target s.debugger s.to_target.bytes s.to_debugger.bytes s.did) s.to_target t.new.queue t.new.debugger s.to_debugger.capacity c.self.invariant refl
           t.ensures.debugger t.ensures.queue c.keeps-2.ensures.target c.keeps-2.ensures.debugger).goes),
     )

@@ -10,7 +10,7 @@ invariant_of-self g c =
     let s = c.self.inside in
     let e = c.in-Ok.ensures in
     rw c.has_turned-self-inside.ensures
-    ((release-done g.M.Machine.meaning c.laws.ensures.worlds (link_of s.target s.debugger s.to_target.bytes s.to_debugger.bytes s.did) c.args.place c.in-Ok.released c.release.new.self s.to_target.capacity s.to_debugger.capacity c.laws.ensures c.self.invariant
+    ((release-done g.M.Machine.meaning c.of_sessions.ensures.worlds (link_of s.target s.debugger s.to_target.bytes s.to_debugger.bytes s.did) c.args.place c.in-Ok.released c.release.new.self s.to_target.capacity s.to_debugger.capacity c.of_sessions.ensures c.self.invariant
     c.keeps.ensures.debugger e.releases e.encoded e.packets c.keeps-in-Ok.ensures.target).right)
 
 pub invariant_of-self-in-Err-NoMemory : goal.invariant_of-self-in-Err-NoMemory
@@ -36,7 +36,7 @@ returns-in-Ok-clause-ok g c =
     let s = c.self.inside in
     let e = c.in-Ok.ensures in
     rw (← c.self.view_is, c.has_turned-self-inside.ensures)
-    ((release-done g.M.Machine.meaning c.laws.ensures.worlds (link_of s.target s.debugger s.to_target.bytes s.to_debugger.bytes s.did) c.args.place c.in-Ok.released c.release.new.self s.to_target.capacity s.to_debugger.capacity c.laws.ensures c.self.invariant
+    ((release-done g.M.Machine.meaning c.of_sessions.ensures.worlds (link_of s.target s.debugger s.to_target.bytes s.to_debugger.bytes s.did) c.args.place c.in-Ok.released c.release.new.self s.to_target.capacity s.to_debugger.capacity c.of_sessions.ensures c.self.invariant
     c.keeps.ensures.debugger e.releases e.encoded e.packets c.keeps-in-Ok.ensures.target).goes)
 
 pub returns-in-Err-NoMemory-clause-err : goal.returns-in-Err-NoMemory-clause-err

@@ -12,26 +12,26 @@ pub returns-clause-mirror : goal.returns-clause-mirror
 returns-clause-mirror g c =
     let s = c.self.inside in
     let l = link_of s.target s.debugger s.to_target.bytes s.to_debugger.bytes s.did in
-    rw (← c.self.view_is) (λ x at. mirrors-seen g.M.Machine.meaning c.laws.ensures.worlds _ _ l x at)
+    rw (← c.self.view_is) (λ x at. mirrors-seen g.M.Machine.meaning c.of_sessions.ensures.worlds _ _ l x at)
 
 pub returns-clause-held : goal.returns-clause-held
 returns-clause-held g c =
     let s = c.self.inside in
     let l = link_of s.target s.debugger s.to_target.bytes s.to_debugger.bytes s.did in
     let link = c.self.invariant.is_link in
-    rw (← c.self.view_is) (holds-suspended g.M.Machine.meaning c.laws.ensures.worlds _ _ l link.world c.keeps.ensures.debugger.own link.stands)
+    rw (← c.self.view_is) (holds-suspended g.M.Machine.meaning c.of_sessions.ensures.worlds _ _ l link.world c.keeps.ensures.debugger.own link.stands)
 
 pub returns-clause-at_most : goal.returns-clause-at_most
 returns-clause-at_most g c =
     let s = c.self.inside in
     let l = link_of s.target s.debugger s.to_target.bytes s.to_debugger.bytes s.did in
-    rw (← c.self.view_is) (λ x at. counts-at-most g.M.Machine.meaning c.laws.ensures.worlds _ _ l x c.keeps.ensures.debugger.own at)
+    rw (← c.self.view_is) (λ x at. counts-at-most g.M.Machine.meaning c.of_sessions.ensures.worlds _ _ l x c.keeps.ensures.debugger.own at)
 
 pub returns-clause-stays : goal.returns-clause-stays
 returns-clause-stays g c =
     let s = c.self.inside in
     let l = link_of s.target s.debugger s.to_target.bytes s.to_debugger.bytes s.did in
-    rw (← c.self.view_is) (λ x at. stays-true g.M.Machine.meaning c.laws.ensures.worlds _ _ l x c.keeps.ensures.debugger.own at)
+    rw (← c.self.view_is) (λ x at. stays-true g.M.Machine.meaning c.of_sessions.ensures.worlds _ _ l x c.keeps.ensures.debugger.own at)
 
 pub returns-clause-faultless : goal.returns-clause-faultless
 returns-clause-faultless g c =
@@ -42,6 +42,6 @@ returns-clause-faultless g c =
     let keeps = c.keeps.ensures.debugger in
     let small = small-limits m l link keeps in
     rw (← c.self.view_is) (record {
-      target = λ fault after turns. (turn-fails m c.laws.ensures.worlds l fault after c.laws.ensures small link turns).0;
-      debugger = λ fault after turns. (read-fails m c.laws.ensures.worlds l fault after c.laws.ensures small keeps link turns).0;
+      target = λ fault after turns. (turn-fails m c.of_sessions.ensures.worlds l fault after c.of_sessions.ensures small link turns).0;
+      debugger = λ fault after turns. (read-fails m c.of_sessions.ensures.worlds l fault after c.of_sessions.ensures small keeps link turns).0;
     })

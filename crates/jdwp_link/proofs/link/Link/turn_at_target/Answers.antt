@@ -11,7 +11,7 @@ invariant_of-self g c =
     let s = c.self.inside in
     let e = c.in-Ok.ensures in
     rw c.has_turned-self-inside.ensures
-    ((turn-done g.M.Machine.meaning c.laws.ensures.worlds (link_of s.target s.debugger s.to_target.bytes s.to_debugger.bytes s.did) c.in-Ok.turn c.turn.new.self s.to_target.capacity s.to_debugger.capacity c.laws.ensures c.self.invariant
+    ((turn-done g.M.Machine.meaning c.of_sessions.ensures.worlds (link_of s.target s.debugger s.to_target.bytes s.to_debugger.bytes s.did) c.in-Ok.turn c.turn.new.self s.to_target.capacity s.to_debugger.capacity c.of_sessions.ensures c.self.invariant
     c.keeps.ensures.debugger e.turns e.encoded e.packets c.keeps-in-Ok.ensures.target).right)
 
 pub invariant_of-self-in-Err-NoMemory : goal.invariant_of-self-in-Err-NoMemory
@@ -19,7 +19,7 @@ invariant_of-self-in-Err-NoMemory g c =
     let s = c.self.inside in
     let m = g.M.Machine.meaning in
     let l = link_of s.target s.debugger s.to_target.bytes s.to_debugger.bytes s.did in
-    let fails = turn-fails m c.laws.ensures.worlds l c.in-Err-NoMemory.field-0 c.turn.new.self c.laws.ensures (small-limits m l c.self.invariant.is_link c.keeps.ensures.debugger) c.self.invariant.is_link c.in-Err-NoMemory.ensures.turns in
+    let fails = turn-fails m c.of_sessions.ensures.worlds l c.in-Err-NoMemory.field-0 c.turn.new.self c.of_sessions.ensures (small-limits m l c.self.invariant.is_link c.keeps.ensures.debugger) c.self.invariant.is_link c.in-Err-NoMemory.ensures.turns in
     subst (λ t. IsRightLink m (link_of t s.debugger s.to_target.bytes s.to_debugger.bytes s.did) s.to_target.capacity s.to_debugger.capacity) (sym fails.1) c.self.invariant
 
 pub unreachable-requires : goal.unreachable-requires
@@ -27,7 +27,7 @@ unreachable-requires g c =
     let s = c.self.inside in
     let m = g.M.Machine.meaning in
     let l = link_of s.target s.debugger s.to_target.bytes s.to_debugger.bytes s.did in
-    let fails = turn-fails m c.laws.ensures.worlds l c.in-Err-Frame.field-0 c.turn.new.self c.laws.ensures (small-limits m l c.self.invariant.is_link c.keeps.ensures.debugger) c.self.invariant.is_link c.in-Err-Frame.ensures.turns in
+    let fails = turn-fails m c.of_sessions.ensures.worlds l c.in-Err-Frame.field-0 c.turn.new.self c.of_sessions.ensures (small-limits m l c.self.invariant.is_link c.keeps.ensures.debugger) c.self.invariant.is_link c.in-Err-Frame.ensures.turns in
     let none : c.in-Err-Frame.field-0 ≡ faults.NoMemory = fails.0 in
     let is = c.in-Err-Frame.field-0-is in
     absurd (cc)
@@ -37,7 +37,7 @@ returns-in-Ok-clause-ok g c =
     let s = c.self.inside in
     let e = c.in-Ok.ensures in
     rw (← c.self.view_is, c.has_turned-self-inside.ensures)
-    ((turn-done g.M.Machine.meaning c.laws.ensures.worlds (link_of s.target s.debugger s.to_target.bytes s.to_debugger.bytes s.did) c.in-Ok.turn c.turn.new.self s.to_target.capacity s.to_debugger.capacity c.laws.ensures c.self.invariant
+    ((turn-done g.M.Machine.meaning c.of_sessions.ensures.worlds (link_of s.target s.debugger s.to_target.bytes s.to_debugger.bytes s.did) c.in-Ok.turn c.turn.new.self s.to_target.capacity s.to_debugger.capacity c.of_sessions.ensures c.self.invariant
     c.keeps.ensures.debugger e.turns e.encoded e.packets c.keeps-in-Ok.ensures.target).goes)
 
 pub returns-in-Err-NoMemory-clause-err : goal.returns-in-Err-NoMemory-clause-err
@@ -45,5 +45,5 @@ returns-in-Err-NoMemory-clause-err g c =
     let s = c.self.inside in
     let m = g.M.Machine.meaning in
     let l = link_of s.target s.debugger s.to_target.bytes s.to_debugger.bytes s.did in
-    let fails = turn-fails m c.laws.ensures.worlds l c.in-Err-NoMemory.field-0 c.turn.new.self c.laws.ensures (small-limits m l c.self.invariant.is_link c.keeps.ensures.debugger) c.self.invariant.is_link c.in-Err-NoMemory.ensures.turns in
+    let fails = turn-fails m c.of_sessions.ensures.worlds l c.in-Err-NoMemory.field-0 c.turn.new.self c.of_sessions.ensures (small-limits m l c.self.invariant.is_link c.keeps.ensures.debugger) c.self.invariant.is_link c.in-Err-NoMemory.ensures.turns in
     rw (← c.self.view_is) (ap (λ t. link_of t s.debugger s.to_target.bytes s.to_debugger.bytes s.did) fails.1, fails.2)

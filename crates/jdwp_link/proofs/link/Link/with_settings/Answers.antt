@@ -14,7 +14,7 @@ invariant_of-result g c =
     let to_debugger : c.in_ok-kept.kept.1.bytes ≡ [] = search rules in
     let first : c.in_ok-kept.kept.0.capacity ≡ most_outgoing c.args.settings.limits = search rules in
     let second : c.in_ok-kept.kept.1.capacity ≡ most_outgoing c.args.settings.limits = search rules in
-    rw (target, debugger, to_target, to_debugger) (opening-right m c.args.settings c.args.machine _ _ c.begins.ensures first second)
+    rw (target, debugger, to_target, to_debugger) (opening-right m c.args.settings c.args.machine _ _ c.may_begin.ensures first second)
 
 pub returns-clause-link : goal.returns-clause-link
 returns-clause-link g c =
@@ -32,4 +32,4 @@ returns-clause-stands g c =
     let debugger : c.in_ok-ends.ends.1 ≡ new_debugger c.args.settings.limits 1 = search rules in
     let to_target : c.in_ok-kept.kept.0.bytes ≡ [] = search rules in
     let to_debugger : c.in_ok-kept.kept.1.bytes ≡ [] = search rules in
-    rw (target, debugger, to_target, to_debugger) (opening-stands m c.args.settings c.args.machine c.begins.ensures)
+    rw (target, debugger, to_target, to_debugger) (opening-stands m c.args.settings c.args.machine c.may_begin.ensures)

@@ -2,7 +2,7 @@ use Rattle.std.proofs.Common.{ℕ, List, map, sym, subst, ap, ◌∙◌}
 use Rattle.std.specs.List.Sorted.{IsStrictlySortedBy}
 use Rattle.std.specs.Map.{keys_of}
 use Rattle.std.specs.Ordering.{nat_cmp}
-use Rattle.jdwp_mirror.specs.CommandKinds.{object_id}
+use Rattle.jdwp_event.specs.Told.{object_id}
 use Rattle.jdwp_watch.specs.Tables.{Table, named}
 use Rattle.jdwp_watch.proofs.Tabled.{keys-seen}
 use Rattle.jdwp_watch.proofs.standings.Standings.threads.Goals as goal

@@ -2,7 +2,8 @@ use Rattle.std.proofs.Common.{ℕ, Option, sym, ap, ◌∙◌}
 use Rattle.jdwp_action.specs.Actions.{action_of}
 use Rattle.jdwp_action.specs.AboutLaws.{about_action}
 use Rattle.jdwp_value.specs.declared.id.ObjectId.{ObjectId}
-use Rattle.jdwp_mirror.specs.CommandKinds.{id_found, kind_of}
+use Rattle.jdwp_mirror.specs.CommandKinds.{kind_of}
+use Rattle.jdwp_event.specs.Told.{id_found}
 use Rattle.jdwp_mirror.specs.declared.command.CommandKind.{CommandKind}
 use Rattle.jdwp_layout.specs.declared.answer.Answer.{Answer}
 use Rattle.jdwp_apart.specs.Messages.{count_in}

@@ -1,7 +1,7 @@
 use Rattle.std.proofs.Common.{◌<◌, List, sym, subst}
 use Rattle.std.specs.Prelude.{Contains}
 use Rattle.jdwp_value.specs.declared.id.ObjectId.{ObjectId}
-use Rattle.jdwp_mirror.specs.CommandKinds.{object_id}
+use Rattle.jdwp_event.specs.Told.{object_id}
 use Rattle.jdwp_apart.specs.Watch.{sure}
 use Rattle.jdwp_watch.specs.Watching.{Watching, watch_of}
 use Rattle.jdwp_watch.proofs.Unseen.{sure-named}

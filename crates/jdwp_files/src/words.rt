@@ -1,0 +1,740 @@
+//! The words of the command line, read.
+ghost use Rattle.std.specs.Prelude.{◌≡◌, IfOk, true};
+ghost use Rattle.jdwp_files.specs.Commands as commands;
+ghost use Rattle.jdwp_files.specs.Commands.{RunsPlanOnlyWhere};
+ghost use Rattle.jdwp_program.specs.Words.{KeepsFiles};
+
+use clap::error::ErrorKind;
+use clap::{Arg, ArgAction, ArgMatches, Command, Error, value_parser};
+use jdwp_debuggee::Settings;
+use jdwp_debugger::Order;
+use jdwp_program::{
+    Attach, Between, CaptureFile, Fault, Pair, Peer, ServeScript, SessionFiles, VERSION, Words,
+    decimal, is_all, limits, order,
+};
+use jdwp_wire::Limits;
+use jdwp_wire::number::GREATEST_INT;
+use std::alloc::{AllocError, Global};
+use std::convert::AsStr;
+
+/// The greatest suspend count that a Suspend gives, where no option says another.
+const COUNT_LIMIT: u32 = 65_535;
+
+/// The name of a command.
+#[derive(Clone, Copy)]
+enum Name {
+    Show,
+    Check,
+    Capture,
+    ServeScript,
+    Attach,
+    Pair,
+}
+
+impl Name {
+    /// The name alone.
+    fn alone(self) -> &'static str {
+        match self {
+            Name::Show => "show",
+            Name::Check => "check",
+            Name::Capture => "capture",
+            Name::ServeScript => "serve-script",
+            Name::Attach => "attach",
+            Name::Pair => "pair",
+        }
+    }
+
+    /// The name behind that of the program.
+    fn in_full(self) -> &'static str {
+        match self {
+            Name::Show => "jdwp show",
+            Name::Check => "jdwp check",
+            Name::Capture => "jdwp capture",
+            Name::ServeScript => "jdwp serve-script",
+            Name::Attach => "jdwp attach",
+            Name::Pair => "jdwp pair",
+        }
+    }
+
+    /// What help tells of the command.
+    fn about(self) -> &'static str {
+        match self {
+            Name::Show => "Shows a capture of a session in words, a line for each message",
+            Name::Check => "Judges a capture of a session: yes, or its first fault",
+            Name::Capture =>
+                "Makes the capture of a session in a recording of the network, as tcpdump and Wireshark write it",
+            Name::ServeScript => {
+                "Serves the session of one debugger, from a file of its bytes, or sessions at a port"
+            }
+            Name::Attach => {
+                "Runs a plan as the debugger of one session, from a file of the target's bytes, or at a port"
+            }
+            Name::Pair => {
+                "Runs a plan as the debugger of a script's machine, both ends in this process, over a connection at 127.0.0.1 or over memory"
+            }
+        }
+    }
+
+    /// What stands behind it, in the order in which help tells it.
+    fn parts(self) -> &'static [Part] {
+        match self {
+            Name::Show | Name::Check => &OF_A_CAPTURE,
+            Name::Capture => &OF_A_RECORDING,
+            Name::ServeScript => &OF_SERVE_SCRIPT,
+            Name::Attach => &OF_ATTACH,
+            Name::Pair => &OF_PAIR,
+        }
+    }
+}
+
+/// What may stand behind the name of a command, with what help tells of it where that is not the same in each.
+#[derive(Clone, Copy)]
+enum Part {
+    Machine,
+    Plan(&'static str),
+    Capture(&'static str),
+    TargetPort,
+    Stream,
+    From(&'static str),
+    To(&'static str),
+    /// The least port that may be named, too.
+    Port(&'static str, i64),
+    Live,
+    Pace,
+    Memory,
+    Start,
+    CountLimit,
+    Order,
+    Limits,
+    Defer,
+    Turns(&'static str),
+}
+
+static OF_A_CAPTURE: [Part; 3] = [
+    Part::Capture(
+        "A text of lines `> HEX` (from the debugger) and `< HEX` (from the target), or a recording of the network (pcap or pcapng)",
+    ),
+    Part::TargetPort,
+    Part::Stream,
+];
+
+static OF_A_RECORDING: [Part; 3] = [
+    Part::Capture("A recording of the network (pcap or pcapng)"),
+    Part::TargetPort,
+    Part::Stream,
+];
+
+static OF_SERVE_SCRIPT: [Part; 11] = [
+    Part::Machine,
+    Part::From("What the debugger sent, in bytes"),
+    Part::To("Where the target's bytes are written"),
+    Part::Port("The port of 127.0.0.1 at which debuggers connect", 0),
+    Part::Live,
+    Part::Pace,
+    Part::Start,
+    Part::CountLimit,
+    Part::Limits,
+    Part::Defer,
+    Part::Turns("How many rounds a session has at most"),
+];
+
+static OF_ATTACH: [Part; 7] = [
+    Part::Plan("A text of lines `ask SET NUMBER [HEX]`, `answers`, `events N` and `mirror`"),
+    Part::From("What the target sent, in bytes"),
+    Part::To("Where the debugger's bytes are written"),
+    Part::Port("The port of 127.0.0.1 at which the target listens", 1),
+    Part::Order,
+    Part::Limits,
+    Part::Turns("How many turns the session has at most"),
+];
+
+static OF_PAIR: [Part; 8] = [
+    Part::Machine,
+    Part::Plan("As of `attach`, and lines `lose target`, `lose debugger` and `attach`"),
+    Part::Memory,
+    Part::Order,
+    Part::Start,
+    Part::Limits,
+    Part::Defer,
+    Part::Turns("How many rounds the run has at most"),
+];
+
+/// Reads the words, the first of which is the program's name.
+///
+/// # Errors
+/// `Words` where they are no command, an option is unknown, stands twice or has no such value, the file of `--to` is named as one that is
+/// read, or help is asked for. `NoMemory` where an allocation was refused.
+pub fn read<'a, S: AsStr>(alloc: Global, words: &'a [S]) -> Result<Words<'a>, Fault<'a>>
+    ensures runs { IfOk result (RunsPlanOnlyWhere (commands.runs_plan S.text words.now)) }
+    ensures keeps { IfOk result KeepsFiles }
+{
+    let said = say(alloc, words)?;
+    match said.emptied() {
+        None => Ok(said),
+        Some(file) => Err(emptying(alloc, file, name_of(&said))),
+    }
+}
+
+/// What the words say, whatever files they write to.
+fn say<'a, S: AsStr>(alloc: Global, words: &'a [S]) -> Result<Words<'a>, Fault<'a>>
+    ensures { IfOk result (RunsPlanOnlyWhere (commands.runs_plan S.text words.now)) }
+{
+    match command(alloc)?.try_get_matches_from(words) {
+        Ok(matches) => read_matches(alloc, &matches, words),
+        Err(error) if error.kind() == ErrorKind::DisplayVersion => Ok(Words::Version),
+        Err(error) => Err(refused(alloc, &error)),
+    }
+}
+
+/// The name of the command that the words say. (No file is written to by the version, which has none.)
+fn name_of(words: &Words<'_>) -> Name {
+    match words {
+        Words::ServeScript(_) => Name::ServeScript,
+        Words::Attach(_) => Name::Attach,
+        Words::Pair(_) => Name::Pair,
+        Words::Show(_) => Name::Show,
+        Words::Capture(_) => Name::Capture,
+        Words::Check(_) | Words::Version => Name::Check,
+    }
+}
+
+/// The file of `--to` is named as this one, which is read.
+fn emptying<'a>(alloc: Global, file: &str, of: Name) -> Fault<'a> {
+    match emptying_message(alloc, file) {
+        Ok(message) => bad_words(alloc, named_in_full(alloc, of), message.as_str()),
+        Err(_) => Fault::NoMemory,
+    }
+}
+
+/// That the file of `--to` would be emptied before it is read.
+fn emptying_message(alloc: Global, file: &str) -> Result<String, AllocError> {
+    format!(in alloc; "'--to' names the file of '{file}': writing to it would empty it")
+}
+
+/// The command that clap found in the words.
+fn read_matches<'a, S: AsStr>(
+    alloc: Global,
+    matches: &ArgMatches<'a>,
+    words: &[S],
+) -> Result<Words<'a>, Fault<'a>>
+    ensures { IfOk result (RunsPlanOnlyWhere (commands.runs_plan S.text words.now)) }
+{
+    match matches.subcommand() {
+        Some(("show", found)) => Ok(Words::Show(read_capture(alloc, found, Name::Show)?)),
+        Some(("check", found)) => Ok(Words::Check(read_capture(alloc, found, Name::Check)?)),
+        Some(("capture", found)) => Ok(Words::Capture(read_capture(alloc, found, Name::Capture)?)),
+        Some(("serve-script", found)) => Ok(Words::ServeScript(read_serve_script(alloc, found)?)),
+        Some((name, found)) if runs_plan(words) => read_session(alloc, name, found),
+        _ => Err(bad_words(alloc, command(alloc), "a command is missing")),
+    }
+}
+
+/// The command of this name that clap found, which runs a plan.
+fn read_session<'a>(
+    alloc: Global,
+    name: &str,
+    found: &ArgMatches<'a>,
+) -> Result<Words<'a>, Fault<'a>>
+    ensures { IfOk result (RunsPlanOnlyWhere true) }
+{
+    if name == "pair" {
+        return Ok(Words::Pair(read_pair(alloc, found)?));
+    }
+    Ok(Words::Attach(read_attach(alloc, found)?))
+}
+
+/// Whether the word behind the program's name is that of a command that runs a plan: `attach` or `pair`.
+fn runs_plan<S: AsStr>(words: &[S]) -> bool
+    ensures { result ≡ commands.runs_plan S.text words.now }
+{
+    match words {
+        [_, command, ..] => command.as_str() == "attach" || command.as_str() == "pair",
+        _ => false,
+    }
+}
+
+/// The file of a capture, and which connection of a recording it is.
+fn read_capture<'a>(
+    alloc: Global,
+    found: &ArgMatches<'a>,
+    of: Name,
+) -> Result<CaptureFile<'a>, Fault<'a>> {
+    Ok(CaptureFile {
+        file: value(alloc, found, "file")?,
+        target_port: read_target_port(alloc, found, of)?,
+        stream: number(alloc, found, "stream", of)?,
+    })
+}
+
+/// The target's port in a recording, where it is named.
+fn read_target_port<'a>(
+    alloc: Global,
+    found: &ArgMatches<'a>,
+    of: Name,
+) -> Result<Option<u16>, Fault<'a>> {
+    if !found.contains_id("target-port") {
+        return Ok(None);
+    }
+    Ok(Some(port_number(alloc, found, "target-port", of)?))
+}
+
+fn read_serve_script<'a>(
+    alloc: Global,
+    found: &ArgMatches<'a>,
+) -> Result<ServeScript<'a>, Fault<'a>> {
+    let count_limit = number(alloc, found, "count-limit", Name::ServeScript)?;
+    let live = read_live(alloc, found)?;
+    Ok(ServeScript {
+        settings: read_settings(alloc, found, count_limit, Name::ServeScript)?,
+        defer: found.get_flag("defer"),
+        machine: value(alloc, found, "machine")?,
+        peer: read_server_peer(alloc, found, live.is_some())?,
+        turns: number(alloc, found, "turns", Name::ServeScript)?,
+        live,
+    })
+}
+
+/// Whether sessions are live, and how many milliseconds pass at least between two steps then.
+fn read_live<'a>(alloc: Global, found: &ArgMatches<'a>) -> Result<Option<u32>, Fault<'a>> {
+    if !found.get_flag("live") {
+        return Ok(None);
+    }
+    if !found.contains_id("pace") {
+        return Ok(Some(0));
+    }
+    Ok(Some(number(alloc, found, "pace", Name::ServeScript)?))
+}
+
+/// Where debuggers are. That the system chooses the port is for live sessions alone, which tell it.
+fn read_server_peer<'a>(
+    alloc: Global,
+    found: &ArgMatches<'a>,
+    is_live: bool,
+) -> Result<Peer<'a>, Fault<'a>> {
+    match read_peer(alloc, found, Name::ServeScript)? {
+        Peer::Port(0) if !is_live => Err(bad_words(
+            alloc,
+            named_in_full(alloc, Name::ServeScript),
+            "invalid value '0' for '--port <N>': 0 is not in 1..=65535",
+        )),
+        peer => Ok(peer),
+    }
+}
+
+/// The settings of a target with this count limit, which the options of this command say.
+fn read_settings<'a>(
+    alloc: Global,
+    found: &ArgMatches<'a>,
+    count_limit: u32,
+    of: Name,
+) -> Result<Settings, Fault<'a>> {
+    let start = value(alloc, found, "start")?;
+    let limits = read_limits(alloc, found, of)?;
+    match settings(start, count_limit, limits) {
+        Some(settings) => Ok(settings),
+        None => Err(bad_words(alloc, named_in_full(alloc, of), "the options don't read")),
+    }
+}
+
+/// The settings that these are; None where they are no settings.
+fn settings(start: &str, count_limit: u32, limits: Limits) -> Option<Settings> {
+    Settings::new(is_all(start)?, count_limit, limits)
+}
+
+/// The limits that the option says, or the standard ones.
+fn read_limits<'a>(alloc: Global, found: &ArgMatches<'a>, of: Name) -> Result<Limits, Fault<'a>> {
+    let Some(text) = found.get_str("limits") else {
+        return Ok(Limits::standard());
+    };
+    match limits(text) {
+        Some(limits) => Ok(limits),
+        None => Err(bad_limits(alloc, text, of)),
+    }
+}
+
+/// The value of an option of this command that is no limits, told with the command's usage.
+fn bad_limits<'a>(alloc: Global, text: &str, of: Name) -> Fault<'a> {
+    match limits_message(alloc, text) {
+        Ok(message) => bad_words(alloc, named_in_full(alloc, of), message.as_str()),
+        Err(_) => Fault::NoMemory,
+    }
+}
+
+/// That this value of `--limits` is none.
+fn limits_message(alloc: Global, text: &str) -> Result<String, AllocError> {
+    format!(in alloc;
+        "invalid value '{text}' for '--limits <PACKET,LIVE,REQUESTS,PENDING>': PACKET is 2048 to 1048576, the others are 1 to 1024, and 16 + 542 * REQUESTS is at most PACKET"
+    )
+}
+
+fn read_attach<'a>(alloc: Global, found: &ArgMatches<'a>) -> Result<Attach<'a>, Fault<'a>> {
+    Ok(Attach {
+        plan: value(alloc, found, "plan")?,
+        peer: read_peer(alloc, found, Name::Attach)?,
+        order: read_order(alloc, found, Name::Attach)?,
+        limits: read_limits(alloc, found, Name::Attach)?,
+        turns: number(alloc, found, "turns", Name::Attach)?,
+    })
+}
+
+/// In which order the target sends that a command of this name has a session with.
+fn read_order<'a>(alloc: Global, found: &ArgMatches<'a>, of: Name) -> Result<Order, Fault<'a>> {
+    match order(value(alloc, found, "order")?) {
+        Some(order) => Ok(order),
+        None => Err(bad_words(alloc, named_in_full(alloc, of), "the options don't read")),
+    }
+}
+
+fn read_pair<'a>(alloc: Global, found: &ArgMatches<'a>) -> Result<Pair<'a>, Fault<'a>> {
+    Ok(Pair {
+        settings: read_settings(alloc, found, COUNT_LIMIT, Name::Pair)?,
+        defer: found.get_flag("defer"),
+        machine: value(alloc, found, "machine")?,
+        plan: value(alloc, found, "plan")?,
+        between: read_between(found),
+        order: read_order(alloc, found, Name::Pair)?,
+        turns: number(alloc, found, "turns", Name::Pair)?,
+    })
+}
+
+/// What is between both ends of a session in this process.
+fn read_between(found: &ArgMatches<'_>) -> Between {
+    if found.get_flag("memory") {
+        Between::Memory
+    } else {
+        Between::Loopback
+    }
+}
+
+/// Where the other end is that a command of this name has a session with.
+fn read_peer<'a>(alloc: Global, found: &ArgMatches<'a>, of: Name) -> Result<Peer<'a>, Fault<'a>> {
+    if found.contains_id("port") {
+        return Ok(Peer::Port(port_number(alloc, found, "port", of)?));
+    }
+    match (found.get_str("from"), found.get_str("to")) {
+        (Some(from), Some(to)) => Ok(Peer::Files(SessionFiles { from, to })),
+        (None, None) => Err(missing(alloc, of, "--from <FILE> and --to <FILE>, or --port <N>")),
+        (None, Some(_)) => Err(missing(alloc, of, "--from <FILE>")),
+        (Some(_), None) => Err(missing(alloc, of, "--to <FILE>")),
+    }
+}
+
+/// Words of this command in which these options are missing.
+fn missing<'a>(alloc: Global, of: Name, options: &str) -> Fault<'a> {
+    match missing_message(alloc, options) {
+        Ok(message) => bad_words(alloc, named_in_full(alloc, of), message.as_str()),
+        Err(_) => Fault::NoMemory,
+    }
+}
+
+/// That these options are missing.
+fn missing_message(alloc: Global, options: &str) -> Result<String, AllocError> {
+    format!(in alloc; "the following required arguments were not provided: {options}")
+}
+
+/// The number of a port, which is the value of this option.
+fn port_number<'a>(
+    alloc: Global,
+    found: &ArgMatches<'a>,
+    name: &str,
+    of: Name,
+) -> Result<u16, Fault<'a>> {
+    let number = number(alloc, found, name, of)?;
+    match u16::try_from(number) {
+        Ok(port) => Ok(port),
+        Err(_) => Err(bad_words(alloc, named_in_full(alloc, of), "a port is 1 to 65535")),
+    }
+}
+
+/// The value of an argument that is required or has a default.
+fn value<'a>(alloc: Global, found: &ArgMatches<'a>, name: &str) -> Result<&'a str, Fault<'a>> {
+    match found.get_str(name) {
+        Some(text) => Ok(text),
+        None => Err(bad_words(alloc, command(alloc), "a value is missing")),
+    }
+}
+
+/// The number that an option of this command has. `+5` is none, though clap takes it.
+fn number<'a>(
+    alloc: Global,
+    found: &ArgMatches<'a>,
+    name: &str,
+    of: Name,
+) -> Result<u32, Fault<'a>> {
+    let text = value(alloc, found, name)?;
+    match decimal(text) {
+        Some(number) => Ok(number),
+        None => Err(bad_number(alloc, text, name, of)),
+    }
+}
+
+/// The value of an option of this command that is no number, told with the command's usage.
+fn bad_number<'a>(alloc: Global, text: &str, name: &str, of: Name) -> Fault<'a> {
+    match number_message(alloc, text, name) {
+        Ok(message) => bad_words(alloc, named_in_full(alloc, of), message.as_str()),
+        Err(_) => Fault::NoMemory,
+    }
+}
+
+/// That this value of the option is no number.
+fn number_message(alloc: Global, text: &str, name: &str) -> Result<String, AllocError> {
+    let shown = if name == "pace" { "MS" } else { "N" };
+    format!(in alloc; "invalid value '{text}' for '--{name} <{shown}>': a number is digits alone")
+}
+
+/// The command with the program's name before its own.
+fn named_in_full<'a>(alloc: Global, name: Name) -> Result<Command<'a>, AllocError> {
+    named(alloc, name)?.bin_name(name.in_full())
+}
+
+/// Words that clap takes and the program doesn't, told with the usage of this command.
+fn bad_words<'a>(
+    alloc: Global,
+    command: Result<Command<'_>, AllocError>,
+    message: &str,
+) -> Fault<'a> {
+    match told(command, message) {
+        Ok(error) => refused(alloc, &error),
+        Err(_) => Fault::NoMemory,
+    }
+}
+
+/// What clap would say of them.
+fn told(command: Result<Command<'_>, AllocError>, message: &str) -> Result<Error, AllocError> {
+    command?.error(ErrorKind::ValueValidation, message)
+}
+
+/// What clap says of words that it refuses, or of the help that they ask for.
+fn refused<'a>(alloc: Global, error: &Error) -> Fault<'a> {
+    if error.kind() == ErrorKind::OutOfMemory {
+        return Fault::NoMemory;
+    }
+    match error.to_string(alloc) {
+        Ok(text) => Fault::Words(without_line_end(text)),
+        Err(_) => Fault::NoMemory,
+    }
+}
+
+/// The text without the end of its last line.
+fn without_line_end(mut text: String) -> String {
+    if text.as_str().ends_with('\n') {
+        text.pop();
+    }
+    text
+}
+
+/// The program's command, with those of its words behind it.
+fn command<'a>(alloc: Global) -> Result<Command<'a>, AllocError> {
+    let commands = commands(alloc)?;
+    program(alloc)?.subcommands(commands)
+}
+
+/// The program's command alone.
+fn program<'a>(alloc: Global) -> Result<Command<'a>, AllocError> {
+    Command::new(alloc, "jdwp")
+        .about("Ends of the Java Debug Wire Protocol (JDWP, Java SE 11)")
+        .version(VERSION)
+        .subcommand_required(true)
+        .bin_name("jdwp")
+}
+
+/// The commands of the program, in the order in which help tells them.
+fn commands<'a>(alloc: Global) -> Result<Vec<Command<'a>>, AllocError> {
+    let mut commands = Vec::new(alloc);
+    for name in [
+        Name::Show,
+        Name::Check,
+        Name::Capture,
+        Name::ServeScript,
+        Name::Attach,
+        Name::Pair,
+    ] {
+        commands.push(named(alloc, name)?)?;
+    }
+    Ok(commands)
+}
+
+/// The command of this name.
+fn named<'a>(alloc: Global, name: Name) -> Result<Command<'a>, AllocError> {
+    let (alone, about): (&'a str, &'a str) = (name.alone(), name.about());
+    let arguments = arguments(alloc, name.parts())?;
+    Command::new(alloc, alone).about(about).args(arguments)
+}
+
+/// These parts as clap's arguments.
+fn arguments<'a>(alloc: Global, parts: &[Part]) -> Result<Vec<Arg<'a>>, AllocError> {
+    let mut arguments = Vec::new(alloc);
+    for part in parts {
+        arguments.push(argument_of(alloc, *part)?)?;
+    }
+    Ok(arguments)
+}
+
+/// The part as clap's argument.
+fn argument_of<'a>(alloc: Global, part: Part) -> Result<Arg<'a>, AllocError> {
+    match part {
+        Part::From(help) => Ok(from(alloc, help)),
+        Part::To(help) => Ok(to(alloc, help)),
+        Part::Port(help, least) => port(alloc, help, least),
+        Part::Live => live(alloc),
+        Part::Pace => pace(alloc),
+        Part::Machine => Ok(machine(alloc)),
+        Part::Plan(help) => Ok(plan(alloc, help)),
+        Part::Capture(help) => Ok(capture(alloc, help)),
+        Part::TargetPort => Ok(target_port(alloc)),
+        Part::Stream => Ok(stream(alloc)),
+        Part::Memory => Ok(memory(alloc)),
+        Part::Start => Ok(start(alloc)),
+        Part::CountLimit => Ok(count_limit(alloc)),
+        Part::Order => Ok(order_option(alloc)),
+        Part::Limits => Ok(limits_option(alloc)),
+        Part::Defer => Ok(defer(alloc)),
+        Part::Turns(help) => Ok(turns(alloc, help)),
+    }
+}
+
+/// The file of a script.
+fn machine<'a>(alloc: Global) -> Arg<'a> {
+    let help = "The script of the machine to be debugged, in JSON";
+    file(alloc, "machine", "MACHINE", help)
+}
+
+/// The file of a plan.
+fn plan<'a>(alloc: Global, help: &'a str) -> Arg<'a> {
+    file(alloc, "plan", "PLAN", help)
+}
+
+/// The file that a session's bytes are read from. With that of `to` it stands where no port does.
+fn from<'a>(alloc: Global, help: &'a str) -> Arg<'a> {
+    option(alloc, "from", "FILE", help)
+}
+
+/// The file that a session's bytes are written to.
+fn to<'a>(alloc: Global, help: &'a str) -> Arg<'a> {
+    option(alloc, "to", "FILE", help)
+}
+
+/// The port that a session is at, in place of files, from this one on.
+fn port<'a>(alloc: Global, help: &'a str, least: i64) -> Result<Arg<'a>, AllocError> {
+    option(alloc, "port", "N", help)
+        .value_parser(value_parser!(u32).range(least..=65535))
+        .conflicts_with_all(&["from", "to"])
+}
+
+/// That sessions are live.
+fn live<'a>(alloc: Global) -> Result<Arg<'a>, AllocError> {
+    let help =
+        "Threads step only while nothing comes, and the next debugger is awaited for ever; --port 0 is a port that the system chooses";
+    let option: Arg<'a> = flag(alloc, "live", help);
+    let option: Arg<'a> = option.requires_arg("port")?;
+    option.conflicts_with_all(&["from", "to", "turns"])
+}
+
+/// How far the steps of live sessions are apart.
+fn pace<'a>(alloc: Global) -> Result<Arg<'a>, AllocError> {
+    let help =
+        "How many milliseconds pass at least between two steps of live sessions, 0 if it is not given";
+    let option: Arg<'a> = option(alloc, "pace", "MS", help).value_parser(value_parser!(u32));
+    let option: Arg<'a> = option.requires_arg("live")?;
+    option.conflicts_with_all(&["from", "to", "turns"])
+}
+
+/// That nothing but memory is between both ends of a session.
+fn memory<'a>(alloc: Global) -> Arg<'a> {
+    let help = "Bytes go from one end to the other in memory, and no connection is made";
+    flag(alloc, "memory", help)
+}
+
+/// That the target defers replies.
+fn defer<'a>(alloc: Global) -> Arg<'a> {
+    let help =
+        "Puts commands of the sets ReferenceType and Method off until a round handles nothing, the newest first";
+    flag(alloc, "defer", help)
+}
+
+/// Which threads begin suspended.
+fn start<'a>(alloc: Global) -> Arg<'a> {
+    option(alloc, "start", "WHICH", "Which threads VM_START suspends")
+        .value_parser(["all", "none"].as_slice())
+        .default_value("all")
+}
+
+/// The greatest suspend count that a Suspend gives.
+fn count_limit<'a>(alloc: Global) -> Arg<'a> {
+    let help = "The greatest suspend count that a Suspend gives";
+    option(alloc, "count-limit", "N", help)
+        .value_parser(value_parser!(u32).range(1..=i64::from(GREATEST_INT)))
+        .default_value("65535")
+}
+
+/// In which order the target sends.
+fn order_option<'a>(alloc: Global) -> Arg<'a> {
+    let help =
+        "Whether the target sends replies and events as it acts, or by threads of their own, as Java machines do";
+    option(alloc, "order", "ORDER", help)
+        .value_parser(["one", "apart"].as_slice())
+        .default_value("one")
+}
+
+/// The limits of a session.
+fn limits_option<'a>(alloc: Global) -> Arg<'a> {
+    let help = "The most bytes of a packet, live threads, event requests and commands that wait";
+    option(alloc, "limits", "PACKET,LIVE,REQUESTS,PENDING", help)
+}
+
+/// The most turns of a session.
+fn turns<'a>(alloc: Global, help: &'a str) -> Arg<'a> {
+    option(alloc, "turns", "N", help)
+        .value_parser(value_parser!(u32))
+        .default_value("100000")
+}
+
+/// The file of a capture.
+fn capture<'a>(alloc: Global, help: &'a str) -> Arg<'a> {
+    file(alloc, "file", "FILE", help)
+}
+
+/// The target's port in a recording.
+fn target_port<'a>(alloc: Global) -> Arg<'a> {
+    let help =
+        "The target's port in a recording; without it the handshake or the beginning of the connection tells which side is the target";
+    option(alloc, "target-port", "N", help).value_parser(value_parser!(u32).range(1..=65535))
+}
+
+/// Which connection of a recording it is.
+fn stream<'a>(alloc: Global) -> Arg<'a> {
+    option(
+        alloc,
+        "stream",
+        "N",
+        "Which connection of a recording, from 1",
+    )
+    .value_parser(value_parser!(u32).range(1..=i64::from(GREATEST_INT)))
+    .default_value("1")
+}
+
+/// A file by its place among the words.
+fn file<'a>(alloc: Global, name: &'a str, shown: &'a str, help: &'a str) -> Arg<'a> {
+    argument(alloc, name, shown, help).required(true)
+}
+
+/// An option with a value, which stands at most once.
+fn option<'a>(alloc: Global, name: &'a str, shown: &'a str, help: &'a str) -> Arg<'a> {
+    argument(alloc, name, shown, help).long(name)
+}
+
+/// An option without a value, which stands at most once.
+fn flag<'a>(alloc: Global, name: &'a str, help: &'a str) -> Arg<'a> {
+    Arg::new(alloc, name)
+        .long(name)
+        .help(help)
+        .action(ArgAction::SetTrue)
+}
+
+/// An argument with one value.
+fn argument<'a>(alloc: Global, name: &'a str, shown: &'a str, help: &'a str) -> Arg<'a> {
+    Arg::new(alloc, name)
+        .value_name(shown)
+        .help(help)
+        .action(ArgAction::Set)
+}

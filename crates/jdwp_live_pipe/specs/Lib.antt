@@ -1,3 +1,0 @@
-pub mod LiveMoving
-pub mod LiveStory
-pub mod LiveStreams

@@ -1,2 +1,0 @@
-pub mod LiveClosing
-pub mod LiveOnward

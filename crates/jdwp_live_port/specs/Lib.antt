@@ -1,4 +1,0 @@
-pub mod LiveConnections
-pub mod LiveNotices
-pub mod LiveReading
-pub mod LiveServed

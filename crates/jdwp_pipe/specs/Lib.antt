@@ -1,4 +1,0 @@
-pub mod Endings
-pub mod Moving
-pub mod Story
-pub mod Streams

@@ -1,5 +1,0 @@
-use Rattle.jdwp_plan.proofs.FormLaws.{line_spells, spelled}
-use Rattle.jdwp_plan.proofs.laws.reads_each_form.Goals as goal
-
-pub returns : goal.returns
-returns c = λ line said. (λ h. line_spells line said h, λ h. spelled said line h)

@@ -1,7 +1,0 @@
-use Rattle.std.proofs.Common.{◌∙◌, arith, rules}
-use Rattle.std.proofs.lemmas.Grind.{common_steps}
-use Rattle.jdwp_plan.proofs.NumberLaws.{parsed}
-use Rattle.jdwp_plan.proofs.values.byte_number.Goals as goal
-
-pub returns : goal.returns
-returns c = c.ok.ensures.value ∙ parsed 8 c.args.text.now c.parse.result c.parse.ensures.value.0 (λ plus. first_of (search rules, grind (arith, common_steps)))

@@ -1,6 +1,0 @@
-mod Moving
-mod Serving
-mod Turning
-mod Attaching
-mod Nobody
-mod Together

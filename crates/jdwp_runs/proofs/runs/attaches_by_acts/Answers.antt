@@ -1,5 +1,0 @@
-use Rattle.jdwp_runs.proofs.Attaching.{attaches-by-acts}
-use Rattle.jdwp_runs.proofs.runs.attaches_by_acts.Goals as goal
-
-pub returns : goal.returns
-returns g c = attaches-by-acts g.M.Machine.meaning

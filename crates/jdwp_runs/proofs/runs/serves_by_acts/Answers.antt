@@ -1,5 +1,0 @@
-use Rattle.jdwp_runs.proofs.Serving.{serves-by-acts}
-use Rattle.jdwp_runs.proofs.runs.serves_by_acts.Goals as goal
-
-pub returns : goal.returns
-returns g c = serves-by-acts g.M.Machine.meaning

@@ -1,4 +1,0 @@
-pub mod Acting
-pub mod Running
-pub mod Standing
-pub mod Headline

@@ -1,5 +1,0 @@
-use Rattle.std.proofs.Common.{length}
-use Rattle.jdwp_tell.proofs.turns.+sizes_text.Given as goal
-
-abbrev pub decreases-sizes_text : goal.decreases-sizes_text
-decreases-sizes_text l = length l.composites.now

@@ -1,5 +1,0 @@
-use Rattle.std.proofs.Common.{rules}
-use Rattle.jdwp_wire.proofs.error_code.names_error_codes.Goals as goal
-
-pub returns-clause-invalid_thread : goal.returns-clause-invalid_thread
-returns-clause-invalid_thread c = search rules

@@ -1,8 +1,0 @@
-//! Comparisons in tests, as calls: what `assert_eq!` writes is proved once here, and not in each test again, which takes a third of the time.
-use std::fmt::Debug;
-use std::process::Abort;
-
-/// Fails unless both are equal.
-pub(crate) fn expect_same<A: PartialEq + Debug>(rt: &impl Abort, left: &A, right: &A) {
-    assert_eq!(rt; *left, *right);
-}
