@@ -620,12 +620,10 @@ fn other_words_of_live_sessions_are_refused(rt: HostRuntime) {
     }
 }
 
-/// `--limits` behind each command that has a session.
-#[test]
-fn limits_are_read(rt: HostRuntime) {
-    let limits = Limits::new(4096, 8, 2, 4).expect(&rt, "limits");
-    let settings = Settings::new(true, 65535, limits).expect(&rt, "a count limit");
-    let served = Words::ServeScript(ServeScript {
+/// The words of `serve-script` at port 80 are read so, with these limits.
+fn serves_within(rt: &impl Abort, alloc: Global, words: &[&str], limits: Limits) {
+    let settings = Settings::new(true, 65535, limits).expect(rt, "a count limit");
+    let want = Words::ServeScript(ServeScript {
         machine: "m",
         peer: Peer::Port(80),
         settings,
@@ -633,6 +631,40 @@ fn limits_are_read(rt: HostRuntime) {
         turns: 100000,
         live: None,
     });
+    are_read(rt, alloc, words, &want);
+}
+
+/// The words of `attach` at port 80 are read so, with these limits.
+fn attaches_within(rt: &impl Abort, alloc: Global, words: &[&str], limits: Limits) {
+    let want = Words::Attach(Attach {
+        plan: "p",
+        peer: Peer::Port(80),
+        order: Order::One,
+        limits,
+        turns: 100000,
+    });
+    are_read(rt, alloc, words, &want);
+}
+
+/// These words of `pair` are read so, with these limits.
+fn pairs_within(rt: &impl Abort, alloc: Global, words: &[&str], limits: Limits) {
+    let settings = Settings::new(true, 65535, limits).expect(rt, "a count limit");
+    let want = Words::Pair(Pair {
+        machine: "m",
+        plan: "p",
+        between: Between::Loopback,
+        order: Order::One,
+        settings,
+        defer: false,
+        turns: 100000,
+    });
+    are_read(rt, alloc, words, &want);
+}
+
+/// `--limits` behind each command that has a session.
+#[test]
+fn limits_are_read(rt: HostRuntime) {
+    let limits = Limits::new(4096, 8, 2, 4).expect(&rt, "limits");
     let words = [
         "jdwp",
         "serve-script",
@@ -642,25 +674,9 @@ fn limits_are_read(rt: HostRuntime) {
         "--limits",
         "4096,8,2,4",
     ];
-    are_read(&rt, rt.alloc(), &words, &served);
-    let attached = Words::Attach(Attach {
-        plan: "p",
-        peer: Peer::Port(80),
-        order: Order::One,
-        limits,
-        turns: 100000,
-    });
+    serves_within(&rt, rt.alloc(), &words, limits);
     let words = ["jdwp", "attach", "p", "--port", "80", "--limits=4096,8,2,4"];
-    are_read(&rt, rt.alloc(), &words, &attached);
-    let paired = Words::Pair(Pair {
-        machine: "m",
-        plan: "p",
-        between: Between::Loopback,
-        order: Order::One,
-        settings,
-        defer: false,
-        turns: 100000,
-    });
+    attaches_within(&rt, rt.alloc(), &words, limits);
     let words = ["jdwp", "pair", "m", "p", "--limits", "4096,8,2,4"];
-    are_read(&rt, rt.alloc(), &words, &paired);
+    pairs_within(&rt, rt.alloc(), &words, limits);
 }
