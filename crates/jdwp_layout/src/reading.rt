@@ -30,7 +30,7 @@ use std::alloc::Global;
 /// The first fault from the left: `Short` with the length of the slice where an item calls for more bytes than are
 /// left, `BadTag`, `NegativeCount` or `NotUtf8`; where each item is encoded and bytes are left over, `Extra` with the
 /// number of bytes used. `NoMemory` where an allocation was refused, and only where the whole slice encodes data of at
-/// least one item: the data are judged before any of them is kept, so that want of memory hides no fault.
+/// least one item: where memory is wanted the data are judged, so that it hides no fault.
 pub fn read(
     alloc: Global,
     layout: &Layout,
@@ -54,8 +54,14 @@ pub fn read(
     ensures hides { IsErrOf result NoMemory
         → (xs : List DatumMeaning) × EncodesData sizes.now (shape layout.now) xs bytes.now }
 {
-    validate(layout, sizes, bytes)?;
-    read_whole(alloc, layout.items, sizes, bytes)
+    match read_whole(alloc, layout.items, sizes, bytes) {
+        Ok(items) => Ok(items),
+        Err(DataFault::NoMemory) => {
+            validate(layout, sizes, bytes)?;
+            Err(DataFault::NoMemory)
+        }
+        Err(fault) => Err(fault),
+    }
 }
 
 /// The data that the whole slice encodes under these items.
