@@ -10,6 +10,7 @@ ghost use Rattle.jdwp_debuggee.specs.State as spec;
 ghost use Rattle.jdwp_target.specs.Options.{Lives, LivesWithin, settings_at};
 ghost use Rattle.jdwp_target.specs.declared.setup.SetupFault.TheVariants as setup;
 ghost use Rattle.jdwp_target.specs.Deeds.{DefersFew};
+ghost use Rattle.jdwp_target.specs.Protocol.{IsOver};
 ghost use Rattle.jdwp_target.specs.Targets.{Ran, full_standing, lost_target, new_target, opened_target, with_fed, with_taken};
 
 use crate::deferral::Deferral;
@@ -241,6 +242,14 @@ impl<M: Machine + Drop> Target<M> {
             × (self.old.moment.state.alive ≡ true)) }
         ensures opened { IsTrue result → self.new ≡ opened_target self.old }
         ensures refused { result ≡ false → self.new ≡ self.old }
+
+        // A session begins: no byte came, none waits to leave, no reply is deferred, and no loss is noticed.
+        ensures unread { IsTrue result → self.new.end.incoming ≡ [] }
+        ensures unsent { IsTrue result → self.new.end.outgoing ≡ [] }
+        ensures none_deferred { IsTrue result → self.new.deferred ≡ [] }
+        ensures unlost { IsTrue result → self.new.end.session.lost ≡ false }
+        // The machine, the suspend counts of its threads and the event requests are as they were.
+        ensures keeps { self.new.moment ≡ self.old.moment }
     {
         if self.end.is_open() || !self.debuggee.is_alive() {
             return false;
@@ -311,7 +320,15 @@ impl<M: Machine + Drop> Target<M> {
     /// The connection is lost: the end is closed, both buffers are empty, nothing is deferred, every suspend count is 0, there are no
     /// requests, and events are not held.
     pub fn lose(&mut self)
-        ensures { self.new ≡ lost_target self.old }
+        ensures lost { self.new ≡ lost_target self.old }
+
+        // Each live thread's suspend count is 0, there are no event requests, and the end is closed. The machine stays.
+        ensures over { IsOver self.old self.new }
+        // The loss is noticed; what came and was not handled is dropped, and what waited to leave never does.
+        ensures noticed { self.new.end.session.lost ≡ true }
+        ensures unread { self.new.end.incoming ≡ [] }
+        ensures unsent { self.new.end.outgoing ≡ [] }
+        ensures none_deferred { self.new.deferred ≡ [] }
     {
         self.debuggee.reset();
         self.deferral.keep_where(false);

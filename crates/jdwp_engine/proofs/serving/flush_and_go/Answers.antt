@@ -8,7 +8,7 @@ use Rattle.jdwp_engine.proofs.serving.flush_and_go.Goals as goal
 pub returns-then-not-flush_all-clause-ends : goal.returns-then-not-flush_all-clause-ends
 returns-then-not-flush_all-clause-ends g c =
     let fails = c.if-not-flush_all.ensures.fails refl in
-    rw c.lose.ensures (flush-ends g.M.Machine.meaning (g.P.Pipe.story c.args.pipe.now) (g.P.Pipe.story c.flush_all.new.pipe) c.args.target.now c.session.ensures.ran fails)
+    rw c.lose.ensures.lost (flush-ends g.M.Machine.meaning (g.P.Pipe.story c.args.pipe.now) (g.P.Pipe.story c.flush_all.new.pipe) c.args.target.now c.session.ensures.ran fails)
 
 pub step_or_read-requires-clause-left : goal.step_or_read-requires-clause-left
 step_or_read-requires-clause-left g c =
@@ -16,7 +16,7 @@ step_or_read-requires-clause-left g c =
     rw left refl
 
 pub returns-then-not-flush_all-clause-last : goal.returns-then-not-flush_all-clause-last
-returns-then-not-flush_all-clause-last g c = CantFlush c.requires.asks (c.if-not-flush_all.ensures.fails refl) c.lose.ensures
+returns-then-not-flush_all-clause-last g c = CantFlush c.requires.asks (c.if-not-flush_all.ensures.fails refl) c.lose.ensures.lost
 
 pub returns-then-deferred-gt0-clause-goes : goal.returns-then-deferred-gt0-clause-goes
 returns-then-deferred-gt0-clause-goes g c = λ e.

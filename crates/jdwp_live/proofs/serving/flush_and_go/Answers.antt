@@ -9,7 +9,7 @@ use Rattle.jdwp_live.proofs.serving.flush_and_go.Goals as goal
 pub returns-then-not-flush_all-clause-ends : goal.returns-then-not-flush_all-clause-ends
 returns-then-not-flush_all-clause-ends g c =
     let fails = c.if-not-flush_all.ensures.fails refl in
-    rw c.lose.ensures
+    rw c.lose.ensures.lost
     (flush-ends g.M.Machine.meaning (g.P.LivePipe.story c.args.pipe.now).through (g.P.LivePipe.story c.flush_all.new.pipe).through c.args.target.now c.session.ensures.ran fails.0)
 
 pub read_or_step-requires-clause-left : goal.read_or_step-requires-clause-left
@@ -18,7 +18,7 @@ read_or_step-requires-clause-left g c =
     rw left refl
 
 pub returns-then-not-flush_all-clause-last : goal.returns-then-not-flush_all-clause-last
-returns-then-not-flush_all-clause-last g c = CantFlush c.requires.asks (c.if-not-flush_all.ensures.fails refl) c.lose.ensures
+returns-then-not-flush_all-clause-last g c = CantFlush c.requires.asks (c.if-not-flush_all.ensures.fails refl) c.lose.ensures.lost
 
 pub returns-then-deferred-gt0-clause-goes : goal.returns-then-deferred-gt0-clause-goes
 returns-then-deferred-gt0-clause-goes g c = λ e.

@@ -6,7 +6,7 @@ pub returns-in-Done-clause-ends : goal.returns-in-Done-clause-ends
 returns-in-Done-clause-ends g c = λ base start now after o h e.
     let m = g.M.Machine.meaning in
     let kept = kept-by m c.args.ended start (flushed now) c.args.target.now c.in-Done.is h in
-    rw c.lose.ensures (kept-ends m base start now after c.args.target.now c.requires kept o e)
+    rw c.lose.ensures.lost (kept-ends m base start now after c.args.target.now c.requires kept o e)
 
 pub returns-in-LostByRead-clause-ends : goal.returns-in-LostByRead-clause-ends
 returns-in-LostByRead-clause-ends g c = λ base start now after o h e.

@@ -11,5 +11,5 @@ returns-then-not-written-clause-fails g c = λ _.
         rooms = part.3.rooms;
         waits = part.3.waits;
       },
-      (part.0, rw part.1 at c.session.ensures.ran, c.lose.ensures ∙ ap (λ (t : Target g.row.M.Denot). lost_target t) part.1),
+      (part.0, rw part.1 at c.session.ensures.ran, c.lose.ensures.lost ∙ ap (λ (t : Target g.row.M.Denot). lost_target t) part.1),
     )

@@ -17,10 +17,10 @@ returns-in-Some-end_in-clause-serves g c =
     elim c.match-notice_in.branch [
       | in-Some w ↦
           let tells : notice_in c.in-Ok.happened ≡ Some w.in-Some.notice = search rules in
-          (c.match-notice_in.tell, the_last _ _ _ _ _ _ _ c.in-Ok.happened _ i.served i.lives i.closed c.in-Ok.ensures.happens c.lose.ensures ends (told_one (λ f notice h. goal.F-step g f notice tt h) _ _ _ c.in-Ok.happened _ tells w.tell.ensures w.tell-is))
+          (c.match-notice_in.tell, the_last _ _ _ _ _ _ _ c.in-Ok.happened _ i.served i.lives i.closed c.in-Ok.ensures.happens c.lose.ensures.lost ends (told_one (λ f notice h. goal.F-step g f notice tt h) _ _ _ c.in-Ok.happened _ tells w.tell.ensures w.tell-is))
       | in_default w ↦
           let tells : notice_in c.in-Ok.happened ≡ None = search rules in
-          (c.match-notice_in.tell, the_last _ _ _ _ _ _ _ c.in-Ok.happened _ i.served i.lives i.closed c.in-Ok.ensures.happens c.lose.ensures ends (told_none (λ f notice h. goal.F-step g f notice tt h) _ _ c.in-Ok.happened tells w.tell-is))
+          (c.match-notice_in.tell, the_last _ _ _ _ _ _ _ c.in-Ok.happened _ i.served i.lives i.closed c.in-Ok.ensures.happens c.lose.ensures.lost ends (told_none (λ f notice h. goal.F-step g f notice tt h) _ _ c.in-Ok.happened tells w.tell-is))
     ]
 
 pub returns-then-not-lives-2-clause-serves : goal.returns-then-not-lives-2-clause-serves

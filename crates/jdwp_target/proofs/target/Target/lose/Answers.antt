@@ -1,4 +1,5 @@
 use Rattle.std.proofs.Common.{length, rules}
+use Rattle.jdwp_target.proofs.ProtocolTurns.{over-lost}
 use Rattle.jdwp_target.proofs.RightTargets.{right-lost}
 use Rattle.jdwp_target.proofs.target.Target.lose.Goals as goal
 
@@ -7,5 +8,8 @@ invariant_of-self g c =
     rw (c.reset.ensures, c.keep_where.ensures, c.lose.ensures)
     (right-lost g.M.Machine.meaning c.self.inside.debuggee c.self.inside.deferral c.self.inside.began.items c.self.inside.phases.items (length c.self.inside.steps.items) c.self.inside.end c.self.invariant)
 
-pub returns : goal.returns
-returns g c = search rules
+pub returns-clause-lost : goal.returns-clause-lost
+returns-clause-lost g c = search rules
+
+pub returns-clause-over : goal.returns-clause-over
+returns-clause-over g c = rw (c.reset.ensures, c.keep_where.ensures, c.lose.ensures) (over-lost _)
