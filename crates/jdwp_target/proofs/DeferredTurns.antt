@@ -1,6 +1,6 @@
 -- Turns that put a command off, and releases.
 use Rattle.std.proofs.Common.{◌≡◌, ◌∙◌, ℕ, ◌+◌, ◌<◌, ◌≤◌, List, [], ◌∷◌, ◌++◌, length, Bool, true, false, not, ◌&&◌, Option, Some, None, Result, Ok, Err, sym, ap, refl, subst, arith}
-use Rattle.std.specs.Prelude.{IfOk, nat_lt}
+use Rattle.std.specs.Prelude.{IfErr, IfOk, nat_lt}
 use Rattle.std.proofs.lemmas.Bool.{leb-false, ltb-true}
 use Rattle.jdwp_wire.specs.Bytes.{IsBytes}
 use Rattle.jdwp_wire.specs.Streams.{Message, Packet, NextMessage, Whole, AreSendable}
@@ -23,15 +23,14 @@ use Rattle.jdwp_target.specs.declared.target.TargetFault.{TargetFault}
 use Rattle.jdwp_target.specs.declared.target.TargetFault.TheVariants as fault
 use Rattle.jdwp_target.specs.declared.target.Turn.{Turn}
 use Rattle.jdwp_target.specs.declared.target.Turn.TheVariants as turn
-use Rattle.jdwp_target.specs.declared.turning.Came.TheVariants as came
 use Rattle.jdwp_target.specs.declared.turning.Done.{Done}
 use Rattle.jdwp_debuggee.specs.Deferring.{MOST_DEFERRED, is_deferrable, released_at}
 use Rattle.jdwp_target.specs.Standings.{Handles, handles, stands}
 use Rattle.jdwp_target.specs.Deeds.{Does, FullStanding, Releases, defers, defers_kind, perform}
 use Rattle.jdwp_target.specs.Insides.{Deferral, IsRightTarget, message_of, target_of}
 use Rattle.jdwp_target.specs.Targets.{Ran, Target, full_standing, with_handled, with_release}
-use Rattle.jdwp_target.specs.TurnParts.{IsCarriedOut, IsCopied, IsHandled, IsRead, IsWanting, puts_off}
-use Rattle.jdwp_target.specs.Turns.{EncodesFor, EncodesReleased, NeedsMemory, NeedsMemoryToHandle, ReleasesAt, SendsAt, SendsReleased, TurnsAt, at_place, deferred_at, kind_needs_memory, told_of, told_of_packet}
+use Rattle.jdwp_target.specs.TurnParts.{IsAnswered, IsCarriedOut, IsCopied, IsHandled, IsWanting, puts_off}
+use Rattle.jdwp_target.specs.Turns.{EncodesFor, EncodesReleased, NeedsMemory, NeedsMemoryToHandle, ReleasesAt, SendsAt, SendsReleased, at_place, deferred_at, kind_needs_memory, told_of, told_of_packet}
 use Rattle.jdwp_target.specs.ReleaseLaws.{none-found}
 use Rattle.jdwp_target.proofs.RightTurns.{deferral_handled, needs-at-once, nothing-put, packet-phase}
 use Rattle.jdwp_target.proofs.TargetRuns.{ran-handled, ran-released}
@@ -84,10 +83,18 @@ reads-kind m d old k body settings moment (set, number, is, wants) =
     let here : MayWantAsRead m old.settings old.moment (command_read (m.sizes old.moment.machine) set number body) = rw (settings, moment) at wants in
     subst (λ (x : PacketKind). kind_needs_memory m old x body) (sym is) here
 
-pub wants-to-read : {S : Type 0} (m : Meaning S) (d : Debuggee S) (old : Target S) (header : Header) (body : List ℕ) (used : ℕ) (told : Bool) → IsBytes old.end.incoming → front_of old.end ≡ Whole (Packet header body) used
-    → told ≡ takes old.deferring (length old.deferred) → puts_off told header.kind ≡ false → d.settings ≡ old.settings → d.moment ≡ old.moment → IsWanting m d header.kind body → NeedsMemory m old (Packet header body)
-wants-to-read m d old header body used told fits front same off settings moment wants =
-    needs-at-once m old (Packet header body) (as-told old header body used told false fits front same off) (reads-kind m d old header.kind body settings moment wants)
+pub needs-as-read : {S : Type 0} (m : Meaning S) (d : Debuggee S) (old : Target S) (header : Header) (body : List ℕ) (set number : ℕ) → defers (full_standing old) (Packet header body) ≡ false
+    → header.kind ≡ kind.Command set number → d.settings ≡ old.settings → d.moment ≡ old.moment
+    → MayWantAsRead m d.settings d.moment (command_read (m.sizes d.moment.machine) set number body) → NeedsMemory m old (Packet header body)
+needs-as-read m d old header body set number at_once is settings moment wants =
+    needs-at-once m old (Packet header body) at_once (reads-kind m d old header.kind body settings moment (set, number, is, wants))
+
+-- a reply is never put off
+pub never-deferred : {S : Type 0} (v : Target S) (header : Header) (body : List ℕ) (used : ℕ) (error : ErrorCode) → IsBytes v.end.incoming → front_of v.end ≡ Whole (Packet header body) used → header.kind ≡ kind.Reply error
+    → defers (full_standing v) (Packet header body) ≡ false
+never-deferred v header body used error fits front is =
+    let told = takes v.deferring (length v.deferred) in
+    as-told v header body used told false fits front refl (reply-apart told header.kind error is)
 
 -- ---- what was put off
 
@@ -125,12 +132,14 @@ pub whatever-came : (result : Result Turn TargetFault) (P : Type 0) → P → If
 whatever-came (Ok turn) P h = h
 whatever-came (Err fault) P h = tt
 
--- what is answered where the packet was looked at before, which left the debuggee and the end as they were
-pub turns-read : {S : Type 0} (m : Meaning S) (d seen : Debuggee S) (x : Deferral) (began : List (Debuggee S)) (phases : List Phase) (steps : ℕ) (end read : End) (result : Result Turn TargetFault) (new : Target S) → seen ≡ d → read ≡ end
-    → TurnsAt m (front_of read) (target_of seen x began phases steps read) result new → TurnsAt m (front_of end) (target_of d x began phases steps end) result new
-turns-read {S = S} m d seen x began phases steps end read result new alike same h =
-    subst (λ (e : End). TurnsAt m (front_of e) (target_of d x began phases steps e) result new) same
-    (subst (λ (y : Debuggee S). TurnsAt m (front_of read) (target_of y x began phases steps read) result new) alike h)
+-- what follows from what holds of an answer, holds of it
+pub ok-also : {T E : Type 0} (result : Result T E) (P Q : T → Type 0) → ((x : T) → P x → Q x) → IfOk result P → IfOk result Q
+ok-also (Ok x) P Q f h = f x h
+ok-also (Err e) P Q f h = tt
+
+pub err-also : {T E : Type 0} (result : Result T E) (P Q : E → Type 0) → ((e : E) → P e → Q e) → IfErr result P → IfErr result Q
+err-also (Ok x) P Q f h = tt
+err-also (Err e) P Q f h = f e h
 
 pub right-put-off : {S : Type 0} (m : Meaning S) (d : Debuggee S) (x y : Deferral) (began : List (Debuggee S)) (phases : List Phase) (steps : ℕ) (end after : End) (header : Header) (body : List ℕ) (used : ℕ)
     → IsRightTarget m d x began phases steps end → IsBytes end.incoming → front_of end ≡ Whole (Packet header body) used → defers (full_standing (target_of d x began phases steps end)) (Packet header body) ≡ true
@@ -231,7 +240,7 @@ pub deferred-done : {S : Type 0} (m : Meaning S) (d new : Debuggee S) (c : Defer
 deferred-done m d new c bytes done same did = subst (λ (b : List ℕ). IsCarriedOut m d new c.set c.number b done) same did
 
 pub deferred-read : {S : Type 0} (m : Meaning S) (d new : Debuggee S) (c : DeferredCommand) (done : Done) → IsCarriedOut m d new c.set c.number c.body.items done
-    → IsRead m d new c.id (kind.Command c.set c.number) c.body.items (came.Command c.id done)
+    → IsAnswered m d new c.id (kind.Command c.set c.number) c.body.items c.id done
 deferred-read m d new c done did = (c.set, c.number, refl, refl, did)
 
 pub deferred-needs : {S : Type 0} (m : Meaning S) (old : Target S) (w : Widths) (c : DeferredCommand) → w ≡ m.sizes old.moment.machine

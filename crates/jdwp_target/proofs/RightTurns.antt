@@ -49,7 +49,6 @@ use Rattle.jdwp_target.specs.declared.target.TargetFault.{TargetFault}
 use Rattle.jdwp_target.specs.declared.target.TargetFault.TheVariants as fault
 use Rattle.jdwp_target.specs.declared.target.Turn.{Turn}
 use Rattle.jdwp_target.specs.declared.target.Turn.TheVariants as turn
-use Rattle.jdwp_target.specs.declared.turning.Came.TheVariants as came
 use Rattle.jdwp_target.specs.declared.turning.Done.{Done}
 use Rattle.jdwp_target.specs.Deeds.{Does, defers, perform}
 use Rattle.jdwp_target.specs.Insides.{Deferral, IsRightTarget, target_of}
@@ -57,7 +56,7 @@ use Rattle.jdwp_target.specs.Sends.{reply_to, report_of}
 use Rattle.jdwp_target.specs.Standings.{Handles, Standing, carried_out, greets_by, handles, handles_packet, phase_after, replies_by, stands}
 use Rattle.jdwp_target.specs.Targets.{Ran, Target, full_standing, in_phase, with_handled}
 use Rattle.jdwp_target.specs.StepParts.{debuggee_after, end_after}
-use Rattle.jdwp_target.specs.TurnParts.{IsDone, IsHandled, IsRead, after_deaths, closed_where, deaths, reply_of}
+use Rattle.jdwp_target.specs.TurnParts.{IsAnswered, IsDone, IsHandled, after_deaths, closed_where, deaths, reply_of}
 use Rattle.jdwp_target.specs.Turns.{HasData, NeedsMemory, NeedsMemoryToHandle, SendsAt, TurnsAt, told_of_packet, told_where}
 use Rattle.jdwp_target.specs.Visits.{visits_hello, visits_read}
 use Rattle.jdwp_target.proofs.EnqueueLemmas.{two_enqueued}
@@ -344,7 +343,7 @@ command-replied m d mid new header body set number end after done w is session h
 
 -- the same of a command as it was read
 pub command-came : {S : Type 0} (m : Meaning S) (d mid new : Debuggee S) (header : Header) (body : List ℕ) (end after : End) (done : Done) (w : Widths) (id : ℕ)
-    → IsRead m d mid header.id header.kind body (came.Command id done) → end.phase ≡ Established → w ≡ m.sizes d.moment.machine
+    → IsAnswered m d mid header.id header.kind body id done → end.phase ≡ Established → w ≡ m.sizes d.moment.machine
     → d.moment.state.handshaken ≡ true → new ≡ after_deaths done.dies mid
     → after ≡ closed_where done.closes (with_enqueued (stream (reply_of w id done.sent ∷ deaths w mid.moment.state.next_packet done.dies)) end)
     → end.limits ≡ d.settings.limits → least_packet_limit ≤ end.limits.packet
@@ -358,7 +357,7 @@ command-came m d mid new header body end after done w id (set, number, is, same,
 
 -- the same at a turn, where the end without the message has a name of its own
 pub command-taken : {S : Type 0} (m : Meaning S) (d mid new : Debuggee S) (header : Header) (body : List ℕ) (used : ℕ) (end off after : End) (done : Done) (w : Widths) (id : ℕ)
-    → IsRead m d mid header.id header.kind body (came.Command id done) → w ≡ m.sizes d.moment.machine
+    → IsAnswered m d mid header.id header.kind body id done → w ≡ m.sizes d.moment.machine
     → d.moment.state.handshaken ≡ true → new ≡ after_deaths done.dies mid → off ≡ ends.with_handled (Packet header body) used end
     → after ≡ closed_where done.closes (with_enqueued (stream (reply_of w id done.sent ∷ deaths w mid.moment.state.next_packet done.dies)) off)
     → end.limits ≡ d.settings.limits → least_packet_limit ≤ end.limits.packet
@@ -482,7 +481,7 @@ front-room end message used found = omega (arith, leb-false end.limits.packet (l
 
 -- there is room for what is sent for a command
 pub command-room : {S : Type 0} (m : Meaning S) (d mid : Debuggee S) (header : Header) (body : List ℕ) (end : End) (done : Done) (w : Widths) (id : ℕ)
-    → IsRead m d mid header.id header.kind body (came.Command id done) → w ≡ m.sizes d.moment.machine
+    → IsAnswered m d mid header.id header.kind body id done → w ≡ m.sizes d.moment.machine
     → end.limits ≡ d.settings.limits → least_packet_limit ≤ end.limits.packet → length end.outgoing + 1 ≤ end.limits.packet
     → length end.outgoing + (11 + length (sent_bytes w done.sent)) ≤ most_outgoing end.limits
 command-room m d mid header body end done w id (set, number, is, same, did) w-is limits least room =

@@ -1,9 +1,7 @@
 -- Parts of a turn, as the code makes them one after the other.
-use Rattle.std.specs.Prelude.{◌≡◌, ◌≤◌, ℕ, ◌+◌, Bool, true, false, ◌||◌, ◌&&◌, List, [], ◌∷◌, length, Result, MatchResult}
+use Rattle.std.specs.Prelude.{◌≡◌, ◌≤◌, ℕ, ◌+◌, Bool, true, false, ◌||◌, ◌&&◌, List, [], ◌∷◌, length}
 use Rattle.jdwp_wire.specs.Streams.{Message, Packet, Whole, AreSendable}
 use Rattle.jdwp_wire.specs.Widths.{Widths}
-use Rattle.jdwp_wire.specs.declared.error_code.ErrorCode.{ErrorCode}
-use Rattle.jdwp_wire.specs.declared.no_memory.NoMemory.{NoMemory}
 use Rattle.jdwp_wire.specs.declared.packet.Header.{Header}
 use Rattle.jdwp_wire.specs.declared.packet.PacketKind.{PacketKind}
 use Rattle.jdwp_wire.specs.declared.packet.PacketKind.TheVariants as kind
@@ -28,13 +26,15 @@ use Rattle.jdwp_target.specs.StepParts.{debuggee_after, end_after}
 use Rattle.jdwp_target.specs.Targets.{Target, full_standing}
 use Rattle.jdwp_target.specs.Visits.{visits_handled, visits_read}
 use Rattle.jdwp_target.specs.declared.deferral.DeferredCommand.{DeferredCommand}
-use Rattle.jdwp_target.specs.declared.turning.Came.{Came}
-use Rattle.jdwp_target.specs.declared.turning.Came.TheVariants as came
 use Rattle.jdwp_target.specs.declared.turning.Done.{Done}
 
 -- a packet with this header, of so many bytes, stands in front of a target, which puts it off
 abbrev pub HasDeferred : {S : Type 0} → Header → ℕ → Target S → Type 0
 HasDeferred header used t = (body : List ℕ) × (front_of t.end ≡ Whole (Packet header body) used) × (defers (full_standing t) (Packet header body) ≡ true)
+
+-- a packet with this header, of so many bytes, stands in front of a target, which handles it at once
+abbrev pub HasAtOnce : {S : Type 0} → Header → ℕ → Target S → Type 0
+HasAtOnce header used t = (body : List ℕ) × (front_of t.end ≡ Whole (Packet header body) used) × (defers (full_standing t) (Packet header body) ≡ false)
 
 -- what is kept of a command in a packet with this header and these data
 abbrev pub IsCopied : Header → List ℕ → DeferredCommand → Type 0
@@ -57,36 +57,20 @@ pub record IsCarriedOut {S : Type 0} (m : Meaning S) (old new : Debuggee S) (set
       (visits_read m old.settings old.moment (command_read (m.sizes old.moment.machine) set number body) old.visits) old new done
   pub encoded : EncodesAnswer (m.sizes old.moment.machine) set number (carried_out m old.settings old.moment (command_read (m.sizes old.moment.machine) set number body)).answer
 
--- What was made of a packet of this id and kind with these data: the id of a command and what became of it; of one that is put off and of a
--- reply nothing, and the debuggee is as it was.
-abbrev pub IsRead : {S : Type 0} → Meaning S → Debuggee S → Debuggee S → ℕ → PacketKind → List ℕ → Came → Type 0
-IsRead m old new id k body (came.Command n done) =
+-- The command in a packet of this kind, with these data, was carried out or refused, and so it was for the command of this id.
+abbrev pub IsAnswered : {S : Type 0} → Meaning S → Debuggee S → Debuggee S → ℕ → PacketKind → List ℕ → ℕ → Done → Type 0
+IsAnswered m old new id k body n done =
     (set : ℕ) × (number : ℕ) × (k ≡ kind.Command set number) × (n ≡ id) × IsCarriedOut m old new set number body done
-IsRead m old new id k body (came.Deferred set number) = (k ≡ kind.Command set number) × (new ≡ old)
-IsRead m old new id k body came.Reply = (error : ErrorCode) × (k ≡ kind.Reply error) × (new ≡ old)
 
 -- whether a packet of this kind is put off, where those that may be are
 abbrev pub puts_off : Bool → PacketKind → Bool
 puts_off defers (kind.Command set number) = defers && is_deferrable set
 puts_off defers (kind.Reply error) = false
 
-abbrev pub IsPutOff : Bool → PacketKind → Came → Type 0
-IsPutOff defers k (came.Command n done) = puts_off defers k ≡ false
-IsPutOff defers k (came.Deferred set number) = puts_off defers k ≡ true
-IsPutOff defers k came.Reply = Unit {0}
-
 -- a command for which memory may be wanted, as the debuggee stands
 abbrev pub IsWanting : {S : Type 0} → Meaning S → Debuggee S → PacketKind → List ℕ → Type 0
 IsWanting m d k body =
     (set : ℕ) × (number : ℕ) × (k ≡ kind.Command set number) × MayWantAsRead m d.settings d.moment (command_read (m.sizes d.moment.machine) set number body)
-
--- what was made of a packet with this header and these data, where memory may have been wanted: it is not where the packet is put off, only where
--- the debuggee may want it, and then the debuggee is as it was
-abbrev pub ReadsPacket : {S : Type 0} → Meaning S → Debuggee S → Debuggee S → Header → List ℕ → Bool → Result Came NoMemory → Type 0
-ReadsPacket m old new header body defers result =
-    MatchResult result
-    (λ c. IsRead m old new header.id header.kind body c × IsPutOff defers header.kind c)
-    (λ wanted. (puts_off defers header.kind ≡ false) × IsWanting m old header.kind body × (new ≡ old))
 
 -- what is sent for a command, as the reply to the command of this id
 abbrev pub reply_of : Widths → ℕ → Sent → Message

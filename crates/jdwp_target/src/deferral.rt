@@ -97,10 +97,18 @@ impl Deferral {
     }
 
     /// Whether the next command that may be deferred is.
-    pub(crate) fn takes(&self) -> bool
+    fn is_taking(&self) -> bool
         ensures { result ≡ (self.now.on && nat_lt (length self.now.commands) MOST_DEFERRED) }
     {
         self.on && self.commands.len() < 16
+    }
+
+    /// Whether the next command of this set is deferred.
+    pub(crate) fn takes(&self, set: u8) -> bool
+        ensures { result ≡ ((self.now.on && nat_lt (length self.now.commands) MOST_DEFERRED)
+            && is_deferrable set) }
+    {
+        self.is_taking() && may_be_deferred(set)
     }
 
     /// The command at this place, 0 for the oldest.
@@ -147,7 +155,7 @@ impl Deferral {
 }
 
 /// Whether commands of this set may be deferred.
-pub(crate) fn may_be_deferred(set: u8) -> bool
+fn may_be_deferred(set: u8) -> bool
     ensures { result ≡ is_deferrable set }
 {
     set == REFERENCE_TYPE || set == METHOD

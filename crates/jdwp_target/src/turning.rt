@@ -1,6 +1,6 @@
 //! Messages as a target over any machine handles them.
 ghost use Rattle.std.specs.Prelude.{◌≡◌, ◌≢◌, ◌≤◌, ◌+◌, ◌-◌, ◌⊎◌, ◌∷◌, ℕ, ℤ, List, Some, None, Ok, Err, true, false, length, IfOk, IfErr, OnErr};
-ghost use Rattle.jdwp_end.specs.Ends.{HasPacketWith, front_of, most_outgoing, with_enqueued};
+ghost use Rattle.jdwp_end.specs.Ends.{HasPacket, HasPacketWith, front_of, most_outgoing, with_enqueued};
 ghost use Rattle.jdwp_end.specs.declared.phase.Phase.TheVariants.{Established};
 ghost use Rattle.jdwp_event.specs.Composites.{vm_start};
 ghost use Rattle.jdwp_event.specs.Constants.{policy_byte};
@@ -10,6 +10,8 @@ ghost use Rattle.jdwp_wire.specs.Bytes.{IsBytes};
 ghost use Rattle.jdwp_wire.specs.declared.frame.FrameFault.{FrameFault};
 ghost use Rattle.jdwp_wire.specs.ErrorCodes.{NONE};
 ghost use Rattle.jdwp_wire.specs.Numbers.{id_refusal};
+ghost use Rattle.jdwp_wire.specs.declared.packet.Header.{Header};
+ghost use Rattle.jdwp_wire.specs.declared.packet.PacketKind.TheVariants as kind;
 ghost use Rattle.jdwp_wire.specs.Streams.{AreSendable, Packet, Whole, message_bytes, stream};
 ghost use Rattle.jdwp_wire.specs.Limits.{least_packet_limit, most_packet_limit};
 ghost use Rattle.jdwp_layout.specs.Meanings.{ScalarMeaning};
@@ -26,12 +28,11 @@ ghost use Rattle.jdwp_debuggee.specs.Steps.{start_event};
 ghost use Rattle.jdwp_target.specs.Sends.{IsEncoded, report_of};
 ghost use Rattle.jdwp_target.specs.Standings.{carried_out, greets_by, stands};
 ghost use Rattle.jdwp_target.specs.StepParts.{debuggee_after};
-ghost use Rattle.jdwp_target.specs.TurnParts.{IsCarriedOut, IsDone, ReadsPacket, after_deaths, closed_where, deaths, reply_of};
+ghost use Rattle.jdwp_target.specs.TurnParts.{HasAtOnce, IsCarriedOut, IsDone, after_deaths, closed_where, deaths, reply_of};
 ghost use Rattle.jdwp_target.specs.Turns.{EncodesNext, SendsAt, TurnsAt};
 ghost use Rattle.jdwp_target.specs.Protocol.{AddsRequest, Answers, EachCount, HasReplied, IsOver, OneCount, requests};
 ghost use Rattle.jdwp_target.specs.Visits.{visits_hello, visits_read};
 
-use crate::deferral::may_be_deferred;
 use crate::laws;
 use crate::numbers::{enqueue_int, fits_code};
 use crate::sending::{enqueue_composite_header, enqueue_death, enqueue_reply};
@@ -40,19 +41,8 @@ use jdwp_debuggee::{Debuggee, ParsedCommand, Reply, Sent, Start, read_command};
 use jdwp_end::{End, Front};
 use jdwp_event::EventKind;
 use jdwp_machine::Machine;
-use jdwp_wire::{ErrorCode, HANDSHAKE, Header, IdSizes, NoMemory, PacketKind, PacketRef};
+use jdwp_wire::{ErrorCode, HANDSHAKE, Header, IdSizes, NoMemory, PacketKind};
 use std::alloc::Global;
-
-/// What came in a packet.
-#[derive(Drop)]
-pub(crate) enum Came {
-    /// A command that was carried out or refused: its id, and what became of it.
-    Command(u32, Done),
-    /// A command of this set and number, whose reply is to be deferred.
-    Deferred(u8, u8),
-    /// A reply, which means nothing to a target.
-    Reply,
-}
 
 /// What became of a command: what is sent for it, whether the machine died by it, and whether the session closes behind it.
 #[derive(Drop)]
@@ -174,7 +164,7 @@ impl<M: Machine + Drop> Target<M> {
         }
     }
 
-    /// Handles the packet in front, which has this header and takes so many bytes, or defers its reply.
+    /// Handles the packet in front, which has this header and takes so many bytes: a command is answered, or its reply is deferred.
     ///
     /// # Errors
     /// `NoMemory`, as a turn.
@@ -188,94 +178,103 @@ impl<M: Machine + Drop> Target<M> {
             EncodesNext M.meaning (front_of self.old.end) self.old) }
         ensures packets { IfOk result (λ _. SendsAt M.meaning (front_of self.old.end) self.old) }
     {
-        let sizes = self.debuggee.sizes();
-        let defers = self.deferral.takes();
-        let came = handle_front(
-            &mut self.debuggee,
-            self.alloc,
-            &mut self.end,
-            (header, used),
-            &sizes,
-            defers,
-        )?;
-        match came {
-            Came::Reply => {
-                self.end.take_off(used);
-                Ok(Turn::Ignored)
-            }
-            Came::Deferred(set, number) => self.defer(header, set, number, used),
-            Came::Command(id, done) => {
-                fits_reply(id, &done, &sizes, &self.debuggee);
-                self.end.take_off(used);
-                reply(id, &done, &sizes, &mut self.debuggee, &mut self.end);
-                self.deferral.keep_where(self.end.is_established());
-                Ok(Turn::Replied(id, error_of(&done.sent)))
+        match header.kind {
+            PacketKind::Reply { .. } => Ok(self.ignore(header, used)),
+            PacketKind::Command { set, number } => {
+                if self.deferral.takes(set) {
+                    return self.defer(header, set, number, used);
+                }
+                self.answer(header, set, number, used)
             }
         }
     }
+
+    /// Takes the reply in front off, which has this header and takes so many bytes: it means nothing to a target.
+    fn ignore(&mut self, header: Header, used: usize) -> Turn
+        requires packet { HasPacketWith header used self.old.end }
+        requires reply { (error : ErrorCode) × (header.kind ≡ kind.Reply error) }
+        requires bytes { IsBytes self.old.end.incoming }
+        ensures turns { TurnsAt M.meaning (front_of self.old.end) self.old (Ok result) self.new }
+        ensures encoded { EncodesNext M.meaning (front_of self.old.end) self.old }
+        ensures packets { SendsAt M.meaning (front_of self.old.end) self.old }
+    {
+        self.end.take_off(used);
+        Turn::Ignored
+    }
+
+    /// Carries out or refuses the command of this set and number in the packet in front, which has this header and takes so many bytes, and
+    /// replies to it.
+    ///
+    /// # Errors
+    /// `NoMemory`, as a turn.
+    fn answer(
+        &mut self,
+        header: Header,
+        set: u8,
+        number: u8,
+        used: usize,
+    ) -> Result<Turn, TargetFault>
+        requires packet { HasAtOnce header used self.old }
+        requires command { header.kind ≡ kind.Command set number }
+        requires bytes { IsBytes self.old.end.incoming }
+        requires least { least_packet_limit ≤ self.old.end.limits.packet }
+        requires most { self.old.end.limits.packet ≤ most_packet_limit }
+        ensures turns { TurnsAt M.meaning (front_of self.old.end) self.old result self.new }
+        ensures encoded { IfOk result (λ _.
+            EncodesNext M.meaning (front_of self.old.end) self.old) }
+        ensures packets { IfOk result (λ _. SendsAt M.meaning (front_of self.old.end) self.old) }
+    {
+        let id = header.id;
+        let sizes = self.debuggee.sizes();
+        let done = handle_front(
+            &mut self.debuggee,
+            self.alloc,
+            &mut self.end,
+            (set, number),
+            used,
+            &sizes,
+        )?;
+        fits_reply(id, &done, &sizes, &self.debuggee);
+        self.end.take_off(used);
+        reply(id, &done, &sizes, &mut self.debuggee, &mut self.end);
+        self.deferral.keep_where(self.end.is_established());
+        Ok(Turn::Replied(id, error_of(&done.sent)))
+    }
 }
 
-/// Carries out or refuses the command in the packet in front of an end, which has this header and takes so many bytes, where its reply is
-/// not deferred. Its data are read where they lie, or joined where they wrap, and the end is as it was.
+/// Carries out or refuses the command of this set and number in the packet in front of an end, which takes so many bytes. Its data are
+/// read where they lie, or joined where they wrap, and the end is as it was.
 ///
 /// # Errors
-/// As those of `handle_packet`.
+/// As those of `handle_command`.
 fn handle_front<M: Machine>(
     debuggee: &mut Debuggee<M>,
     alloc: Global,
     end: &mut End,
-    front: (Header, usize),
+    command: (u8, u8),
+    used: usize,
     sizes: &IdSizes,
-    defers: bool,
-) -> Result<Came, NoMemory>
-    requires packet { HasPacketWith front.0 front.1 end.old }
+) -> Result<Done, NoMemory>
+    requires packet { HasPacket used end.old }
     requires shaken { debuggee.old.moment.state.handshaken ≡ true }
     requires widths { sizes.now ≡ M.meaning.sizes debuggee.old.moment.machine }
-    ensures came { (body : List ℕ) → front_of end.old ≡ Whole (Packet front.0 body) front.1
-        → ReadsPacket M.meaning debuggee.old debuggee.new front.0 body defers result }
+    ensures ok { IfOk result (λ done. (header : Header) (body : List ℕ)
+        → front_of end.old ≡ Whole (Packet header body) used
+        → IsCarriedOut M.meaning debuggee.old debuggee.new command.0 command.1 body done) }
+    ensures err { OnErr result (debuggee.new ≡ debuggee.old) }
+    ensures wants { IfErr result (λ _. (header : Header) (body : List ℕ)
+        → front_of end.old ≡ Whole (Packet header body) used
+        → MayWantAsRead M.meaning debuggee.old.settings debuggee.old.moment
+        (command_read sizes.now command.0 command.1 body)) }
     ensures same { end.new ≡ end.old }
 {
-    let (header, used) = front;
+    let (set, number) = command;
     match end.data_in_place(used) {
-        Some(body) => {
-            let packet = PacketRef { header, body };
-            handle_packet(debuggee, alloc, &packet, sizes, defers)
-        }
+        Some(body) => handle_command(debuggee, alloc, set, number, sizes, body),
         None => {
             let body = end.data_joined(used);
-            let packet = PacketRef { header, body };
-            handle_packet(debuggee, alloc, &packet, sizes, defers)
+            handle_command(debuggee, alloc, set, number, sizes, body)
         }
-    }
-}
-
-/// Carries out or refuses the command in this packet, where its reply is not deferred.
-///
-/// # Errors
-/// `NoMemory` where an allocation was refused, at a command that is not deferred and for which the debuggee may want memory. Then nothing
-/// has changed.
-fn handle_packet<M: Machine>(
-    debuggee: &mut Debuggee<M>,
-    alloc: Global,
-    packet: &PacketRef<'_>,
-    sizes: &IdSizes,
-    defers: bool,
-) -> Result<Came, NoMemory>
-    requires shaken { debuggee.old.moment.state.handshaken ≡ true }
-    requires widths { sizes.now ≡ M.meaning.sizes debuggee.old.moment.machine }
-    ensures { ReadsPacket M.meaning debuggee.old debuggee.new packet.now.header packet.now.body.now
-        defers result }
-{
-    let id = packet.header.id;
-    match packet.header.kind {
-        PacketKind::Command { set, number } => {
-            if defers && may_be_deferred(set) {
-                return Ok(Came::Deferred(set, number));
-            }
-            let done = handle_command(debuggee, alloc, set, number, sizes, packet.body)?;
-            Ok(Came::Command(id, done))
-        }
-        PacketKind::Reply { .. } => Ok(Came::Reply),
     }
 }
 

@@ -12,4 +12,4 @@ pub returns-clause-lost : goal.returns-clause-lost
 returns-clause-lost g c = search rules
 
 pub returns-clause-over : goal.returns-clause-over
-returns-clause-over g c = rw (c.reset.ensures, c.keep_where.ensures, c.lose.ensures) (over-lost _)
+returns-clause-over g c = rw (returns-clause-lost g c) (over-lost c.args.self.now)

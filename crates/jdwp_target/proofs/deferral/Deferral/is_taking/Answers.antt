@@ -1,7 +1,7 @@
 use Rattle.std.proofs.Common.{◌≡◌, length, refl, arith}
 use Rattle.jdwp_target.specs.Insides.{messages_of}
 use Rattle.jdwp_target.proofs.DeferredCommands.{messages-length}
-use Rattle.jdwp_target.proofs.deferral.Deferral.takes.Goals as goal
+use Rattle.jdwp_target.proofs.deferral.Deferral.is_taking.Goals as goal
 
 pub returns-then-self : goal.returns-then-self
 returns-then-self c =
