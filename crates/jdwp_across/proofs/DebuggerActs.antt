@@ -61,42 +61,42 @@ use Rattle.jdwp_across.proofs.Unmeasured.{read-uncounted, same-asks, uncounted_f
 
 -- ---- bytes come, and leave
 
-pub comes-to-debugger : {S : Type 0} (m : Meaning S) (settings : Settings) (w : Widths) (s : S) (acts : List Act) (old new : Programs S) (bytes : List ℕ) → Standing m settings w s acts old → Agrees new
-    → new ≡ record old { debugger = debuggers.with_fed bytes old.debugger } → Stands m settings w s (acts ++ act.ComesToDebugger bytes ∷ []) new
-comes-to-debugger m settings w s acts old new bytes b then is =
+pub comes-to-debugger : {S : Type 0} (m : Meaning S) (settings : Settings) (w : Widths) (first : World S) (acts : List Act) (old new : Programs S) (bytes : List ℕ) → Standing m settings w first acts old → Agrees new
+    → new ≡ record old { debugger = debuggers.with_fed bytes old.debugger } → Stands m settings w first (acts ++ act.ComesToDebugger bytes ∷ []) new
+comes-to-debugger m settings w first acts old new bytes b then is =
     let t = old.target in
     let d = old.debugger in
     let x = b.world in
     let l = joined t d in
     let front : IsFront (d.end.session.fed ++ bytes) t.end.session.enqueued = (subst Agrees is then).to_debugger in
     let fed = debuggers.with_fed bytes d in
-    stands-by m settings w s acts old new (act.ComesToDebugger bytes) [] x t fed b (goes-idle m settings w (act.ComesToDebugger bytes) x refl refl)
+    stands-by m settings w first acts old new (act.ComesToDebugger bytes) [] x t fed b (goes-idle m settings w (act.ComesToDebugger bytes) x refl refl)
     (debugger-after m settings w t d l.debugger fed l.target.end.incoming [] [] false x b.stands.parts (λ come. refl)
     (λ o. append_assoc d.end.incoming bytes (far_from_debugger t fed) ∙ (ap (λ q. d.end.incoming ++ q) (sym (far-less d.end.session.fed bytes t.end.session.enqueued front)) ∙ sym (append-nil l.debugger.end.incoming)))
     (sym (append-nil d.end.session.enqueued)) refl b.agrees.to_target)
     (ap (λ v. v.target) is) (ap (λ v. v.debugger) is)
 
-pub leaves-debugger : {S : Type 0} (m : Meaning S) (settings : Settings) (w : Widths) (s : S) (acts : List Act) (old new : Programs S) (bytes : List ℕ) → Standing m settings w s acts old
-    → new ≡ record old { debugger = debuggers.with_taken bytes old.debugger } → Stands m settings w s (acts ++ act.LeavesDebugger bytes ∷ []) new
-leaves-debugger m settings w s acts old new bytes b is =
+pub leaves-debugger : {S : Type 0} (m : Meaning S) (settings : Settings) (w : Widths) (first : World S) (acts : List Act) (old new : Programs S) (bytes : List ℕ) → Standing m settings w first acts old
+    → new ≡ record old { debugger = debuggers.with_taken bytes old.debugger } → Stands m settings w first (acts ++ act.LeavesDebugger bytes ∷ []) new
+leaves-debugger m settings w first acts old new bytes b is =
     let x = b.world in
     let l = joined old.target old.debugger in
-    stands-by m settings w s acts old new (act.LeavesDebugger bytes) [] x old.target (debuggers.with_taken bytes old.debugger) b (goes-idle m settings w (act.LeavesDebugger bytes) x refl refl)
+    stands-by m settings w first acts old new (act.LeavesDebugger bytes) [] x old.target (debuggers.with_taken bytes old.debugger) b (goes-idle m settings w (act.LeavesDebugger bytes) x refl refl)
     (debugger-after m settings w old.target old.debugger l.debugger (debuggers.with_taken bytes old.debugger) l.target.end.incoming [] [] false x b.stands.parts (λ come. refl)
     (λ o. sym (append-nil l.debugger.end.incoming)) (sym (append-nil old.debugger.end.session.enqueued)) refl b.agrees.to_target)
     (ap (λ v. v.target) is) (ap (λ v. v.debugger) is)
 
 -- ---- it loses the connection
 
-pub loses-at-debugger : {S : Type 0} (m : Meaning S) (settings : Settings) (w : Widths) (s : S) (acts : List Act) (old new : Programs S) (lost : List Ticket) → Laws m → Standing m settings w s acts old
-    → lost ≡ tickets_of old.debugger.pending → new ≡ record old { debugger = debuggers.lost_debugger old.debugger } → Stands m settings w s (acts ++ act.DebuggerLoses lost ∷ []) new
-loses-at-debugger m settings w s acts old new lost laws b told is =
+pub loses-at-debugger : {S : Type 0} (m : Meaning S) (settings : Settings) (w : Widths) (first : World S) (acts : List Act) (old new : Programs S) (lost : List Ticket) → Laws m → Standing m settings w first acts old
+    → lost ≡ tickets_of old.debugger.pending → new ≡ record old { debugger = debuggers.lost_debugger old.debugger } → Stands m settings w first (acts ++ act.DebuggerLoses lost ∷ []) new
+loses-at-debugger m settings w first acts old new lost laws b told is =
     let x = b.world in
     let l = joined old.target old.debugger in
-    let known = known-across m laws.worlds settings w s acts x b.stands.reached in
+    let known = known-across m laws.worlds settings w first acts x b.onward b.stands.reached in
     let z = model.debugger_closed x in
     let os = model.lost_tickets x.pending in
-    stands-by m settings w s acts old new (act.DebuggerLoses lost) (Events.DebuggerLoses ∷ []) z old.target (debuggers.lost_debugger old.debugger) b
+    stands-by m settings w first acts old new (act.DebuggerLoses lost) (Events.DebuggerLoses ∷ []) z old.target (debuggers.lost_debugger old.debugger) b
     (goes-one m settings w (act.DebuggerLoses lost) Events.DebuggerLoses x z os refl refl (ap lost_of told ∙ loses-tells m settings w l x known b.stands.parts))
     (debugger-after m settings w old.target old.debugger (debuggers.lost_debugger (debuggers.with_taken [] l.debugger)) (debuggers.lost_debugger old.debugger) l.target.end.incoming [] [] false z (loses-debugger m settings w l x false b.stands.parts) (λ come. refl)
     (λ o. absurd (cc)) (sym (append-nil old.debugger.end.session.enqueued)) refl b.agrees.to_target)
@@ -124,13 +124,13 @@ asks-open come d c false e h = h
 ticket-is : (ticket : Ticket) (n : ℕ) → ticket.0 ≡ n → ticket ≡ record { 0 = n }
 ticket-is ticket n e = ap (λ k. record { 0 = k }) e
 
-pub asks-debugger : {S : Type 0} (m : Meaning S) (settings : Settings) (w : Widths) (s : S) (acts : List Act) (old new : Programs S) (c : Command) (ticket : Ticket) → Laws m → Standing m settings w s acts old
-    → refusal_of_ask old.debugger c ≡ None → ticket.0 ≡ old.debugger.tickets + 1 → HasAsked c old.debugger new.debugger → new.target ≡ old.target → Stands m settings w s (acts ++ act.DebuggerAsks c ticket ∷ []) new
-asks-debugger m settings w s acts old new c ticket laws b free-to-ask given h same_t =
+pub asks-debugger : {S : Type 0} (m : Meaning S) (settings : Settings) (w : Widths) (first : World S) (acts : List Act) (old new : Programs S) (c : Command) (ticket : Ticket) → Laws m → Standing m settings w first acts old
+    → refusal_of_ask old.debugger c ≡ None → ticket.0 ≡ old.debugger.tickets + 1 → HasAsked c old.debugger new.debugger → new.target ≡ old.target → Stands m settings w first (acts ++ act.DebuggerAsks c ticket ∷ []) new
+asks-debugger m settings w first acts old new c ticket laws b free-to-ask given h same_t =
     let t = old.target in
     let d = old.debugger in
     let x = b.world in
-    let size = sized m settings w s acts old b in
+    let size = sized m settings w first acts old b in
     let l = joined t d in
     let some = debugger-sized m settings w t d x size b.stands.parts in
     let keeps = debugger-keeps l.debugger.end.incoming d b.keeps in
@@ -142,7 +142,7 @@ asks-debugger m settings w s acts old new c ticket laws b free-to-ask given h sa
     let after = ask-parts m settings w l x c u b.stands.parts done in
     let z = model.asks x c in
     let told = ap (λ k. outcome.Asked k ∷ []) (ticket-is ticket (x.asked + 1) (given ∙ ap (λ n. n + 1) b.stands.parts.debugger.tickets)) in
-    stands-by m settings w s acts old new (act.DebuggerAsks c ticket) (Events.Ask c ∷ []) z t (asked h.widths h.id c d) b
+    stands-by m settings w first acts old new (act.DebuggerAsks c ticket) (Events.Ask c ∷ []) z t (asked h.widths h.id c d) b
     (goes-one m settings w (act.DebuggerAsks c ticket) (Events.Ask c) x z (Events.Asked (x.asked + 1) ∷ []) refl (ap (model.ask_by (uncounted x) c) unmeasured-goes) told)
     (debugger-after m settings w t d u (asked h.widths h.id c d) l.target.end.incoming [] [] false z after (λ come. refl)
     (λ o. sym (append-nil l.debugger.end.incoming)) refl refl b.agrees.to_target)
@@ -173,22 +173,22 @@ parts-another m settings w t d x last id s = record {
 }
 
 -- an act that changes nothing else
-pub stays-another : {S : Type 0} (m : Meaning S) (settings : Settings) (w : Widths) (s : S) (acts : List Act) (old new : Programs S) (a : Act) (last : List Head) (id : ℕ) → Standing m settings w s acts old
-    → events_of a ≡ [] → told_by a ≡ [] → new.target ≡ old.target → new.debugger ≡ another last id old.debugger → Stands m settings w s (acts ++ a ∷ []) new
-stays-another m settings w s acts old new a last id b none told same_t is =
+pub stays-another : {S : Type 0} (m : Meaning S) (settings : Settings) (w : Widths) (first : World S) (acts : List Act) (old new : Programs S) (a : Act) (last : List Head) (id : ℕ) → Standing m settings w first acts old
+    → events_of a ≡ [] → told_by a ≡ [] → new.target ≡ old.target → new.debugger ≡ another last id old.debugger → Stands m settings w first (acts ++ a ∷ []) new
+stays-another m settings w first acts old new a last id b none told same_t is =
     let t = old.target in
     let d = old.debugger in
     let x = b.world in
     let l = joined t d in
-    stands-by m settings w s acts old new a [] x t (another last id d) b (goes-idle m settings w a x none told)
+    stands-by m settings w first acts old new a [] x t (another last id d) b (goes-idle m settings w a x none told)
     (debugger-after m settings w t d (another last id l.debugger) (another last id d) l.target.end.incoming [] [] false x (parts-another m settings w t d x last id b.stands.parts) (λ come. refl)
     (λ o. sym (append-nil l.debugger.end.incoming)) (sym (append-nil d.end.session.enqueued)) refl b.agrees.to_target)
     same_t is
 
-pub numbers-debugger : {S : Type 0} (m : Meaning S) (settings : Settings) (w : Widths) (s : S) (acts : List Act) (old new : Programs S) (id : ℕ) → Standing m settings w s acts old
-    → new ≡ record old { debugger = record old.debugger { next_id = id } } → Stands m settings w s (acts ++ act.DebuggerNumbers id ∷ []) new
-numbers-debugger m settings w s acts old new id b is =
-    stays-another m settings w s acts old new (act.DebuggerNumbers id) old.debugger.last id b refl refl (ap (λ v. v.target) is) (ap (λ v. v.debugger) is)
+pub numbers-debugger : {S : Type 0} (m : Meaning S) (settings : Settings) (w : Widths) (first : World S) (acts : List Act) (old new : Programs S) (id : ℕ) → Standing m settings w first acts old
+    → new ≡ record old { debugger = record old.debugger { next_id = id } } → Stands m settings w first (acts ++ act.DebuggerNumbers id ∷ []) new
+numbers-debugger m settings w first acts old new id b is =
+    stays-another m settings w first acts old new (act.DebuggerNumbers id) old.debugger.last id b refl refl (ap (λ v. v.target) is) (ap (λ v. v.debugger) is)
 
 -- ---- a turn
 
@@ -302,9 +302,9 @@ answers r = Ok r
 pub none-read : (r : Read) → answers r ≡ answers reading.Nothing → r ≡ reading.Nothing
 none-read r h = cc
 
-read-none : {S : Type 0} (m : Meaning S) (settings : Settings) (w : Widths) (s : S) (acts : List Act) (old new : Programs S) (r : Read) (lost : List Ticket) (after : Debugger) → Standing m settings w s acts old → front_of old.debugger.end ≡ More
-    → turns.TurnsAt (front_of old.debugger.end) old.debugger (Ok r) after → lost ≡ lost_with (is_left after) after → new ≡ record old { debugger = settled (is_left after) after } → Stands m settings w s (acts ++ act.DebuggerTurns r lost ∷ []) new
-read-none m settings w s acts old new r lost after b front so gone is =
+read-none : {S : Type 0} (m : Meaning S) (settings : Settings) (w : Widths) (first : World S) (acts : List Act) (old new : Programs S) (r : Read) (lost : List Ticket) (after : Debugger) → Standing m settings w first acts old → front_of old.debugger.end ≡ More
+    → turns.TurnsAt (front_of old.debugger.end) old.debugger (Ok r) after → lost ≡ lost_with (is_left after) after → new ≡ record old { debugger = settled (is_left after) after } → Stands m settings w first (acts ++ act.DebuggerTurns r lost ∷ []) new
+read-none m settings w first acts old new r lost after b front so gone is =
     let t = old.target in
     let d = old.debugger in
     let x = b.world in
@@ -313,7 +313,7 @@ read-none m settings w s acts old new r lost after b front so gone is =
     let kept : is_left after ≡ false = ap is_left same ∙ none-left m settings w (joined t d) x (is_closed x.debugger) b.stands.parts refl in
     let left : settled (is_left after) after ≡ another [] d.next_id d = ap (λ q. settled q after) kept ∙ same in
     let none : lost ≡ [] = gone ∙ ap (λ q. lost_with q after) kept in
-    stays-another m settings w s acts old new (act.DebuggerTurns r lost) [] d.next_id b
+    stays-another m settings w first acts old new (act.DebuggerTurns r lost) [] d.next_id b
     (ap (λ q. where_did (told_did (read_meaning q)) Events.DebuggerTurn) nothing)
     (ap (λ q. told_outcomes (outcomes_of (read_meaning q)) ++ lost_of lost) nothing ∙ ap lost_of none)
     (ap (λ v. v.target) is) (ap (λ v. v.debugger) is ∙ left)
@@ -321,8 +321,8 @@ read-none m settings w s acts old new r lost after b front so gone is =
 -- ---- a message is read
 
 -- What is known where a message is read: what the turn leaves of the model, as far as the debugger's end is open, and what it tells.
-pub record ReadsSo {S : Type 0} (m : Meaning S) (settings : Settings) (w : Widths) (s : S) (acts : List Act) (old : Programs S) (r : Read) (after : Debugger) (z : World S) (closes : Bool) : Type 0 where
-  pub standing : Standing m settings w s acts old
+pub record ReadsSo {S : Type 0} (m : Meaning S) (settings : Settings) (w : Widths) (first : World S) (acts : List Act) (old : Programs S) (r : Read) (after : Debugger) (z : World S) (closes : Bool) : Type 0 where
+  pub standing : Standing m settings w first acts old
   pub twin : Twin old.debugger after
   pub did : told_did (read_meaning r) ≡ true
   pub opened : is_closed z.debugger ≡ false
@@ -336,10 +336,10 @@ told-with : (os : List Events.Outcome) (more : List Events.Outcome) (lost : List
 told-with os more lost e = ap (λ q. told_outcomes os ++ q) e ∙ sym (map-append outcome_told os more)
 
 -- its end stays open
-read-open : {S : Type 0} (m : Meaning S) (settings : Settings) (w : Widths) (s : S) (acts : List Act) (old new : Programs S) (r : Read) (lost : List Ticket) (after : Debugger) (z : World S) → (h : ReadsSo m settings w s acts old r after z false)
+read-open : {S : Type 0} (m : Meaning S) (settings : Settings) (w : Widths) (first : World S) (acts : List Act) (old new : Programs S) (r : Read) (lost : List Ticket) (after : Debugger) (z : World S) → (h : ReadsSo m settings w first acts old r after z false)
     → Parts m settings w (reading_link old (debugger_at after.end.incoming h.twin.more after)) z
-    → lost ≡ lost_with (is_left after) after → new ≡ record old { debugger = settled (is_left after) after } → Stands m settings w s (acts ++ act.DebuggerTurns r lost ∷ []) new
-read-open m settings w s acts old new r lost after z h parts gone is =
+    → lost ≡ lost_with (is_left after) after → new ≡ record old { debugger = settled (is_left after) after } → Stands m settings w first (acts ++ act.DebuggerTurns r lost ∷ []) new
+read-open m settings w first acts old new r lost after z h parts gone is =
     let t = old.target in
     let d = old.debugger in
     let b = h.standing in
@@ -349,17 +349,17 @@ read-open m settings w s acts old new r lost after z h parts gone is =
     let left : settled (is_left after) after ≡ after = ap (λ q. settled q after) none in
     let os = outcomes_of (read_meaning r) in
     let told : told_by (act.DebuggerTurns r lost) ≡ told_outcomes os = ap (λ k. told_outcomes os ++ lost_of k) (gone ∙ ap (λ q. lost_with q after) none) ∙ append-nil (told_outcomes os) in
-    stands-by m settings w s acts old new (act.DebuggerTurns r lost) (Events.DebuggerTurn ∷ []) z t after b
+    stands-by m settings w first acts old new (act.DebuggerTurns r lost) (Events.DebuggerTurn ∷ []) z t after b
     (goes-one m settings w (act.DebuggerTurns r lost) Events.DebuggerTurn b.world z os (ap (λ q. where_did q Events.DebuggerTurn) h.did) h.goes told)
     (debugger-after m settings w t d v after (t.end.incoming ++ far_from_target t d) (far_from_debugger t d) [] true z parts (λ come. refl)
     (λ q. ap (λ k. after.end.incoming ++ drop (length k) t.end.session.enqueued) twin.fed) twin.put refl b.agrees.to_target)
     (ap (λ q. q.target) is) (ap (λ q. q.debugger) is ∙ left)
 
 -- it closes, and tickets that wait are lost
-read-shut : {S : Type 0} (m : Meaning S) (settings : Settings) (w : Widths) (s : S) (acts : List Act) (old new : Programs S) (r : Read) (lost : List Ticket) (after unshut : Debugger) (z : World S) (waits : Bool) → (h : ReadsSo m settings w s acts old r after z true)
+read-shut : {S : Type 0} (m : Meaning S) (settings : Settings) (w : Widths) (first : World S) (acts : List Act) (old new : Programs S) (r : Read) (lost : List Ticket) (after unshut : Debugger) (z : World S) (waits : Bool) → (h : ReadsSo m settings w first acts old r after z true)
     → has_tickets after.pending ≡ waits → IsShut unshut (debugger_at after.end.incoming h.twin.more after) → Parts m settings w (reading_link old unshut) z
-    → lost ≡ lost_with (is_left after) after → new ≡ record old { debugger = settled (is_left after) after } → Stands m settings w s (acts ++ act.DebuggerTurns r lost ∷ []) new
-read-shut m settings w s acts old new r lost after unshut z true h waits shut parts gone is =
+    → lost ≡ lost_with (is_left after) after → new ≡ record old { debugger = settled (is_left after) after } → Stands m settings w first (acts ++ act.DebuggerTurns r lost ∷ []) new
+read-shut m settings w first acts old new r lost after unshut z true h waits shut parts gone is =
     let t = old.target in
     let d = old.debugger in
     let b = h.standing in
@@ -374,12 +374,12 @@ read-shut m settings w s acts old new r lost after unshut z true h waits shut pa
     let os = outcomes_of (read_meaning r) in
     let more : lost_of lost ≡ told_outcomes (model.lost_tickets z.pending) =
     ap lost_of (gone ∙ ap (λ q. lost_with q after) all) ∙ (ap (λ ps. lost_of (tickets_of ps)) shut.pending ∙ (lost-told unshut.pending ∙ ap (λ ps. told_outcomes (model.lost_tickets ps)) (parts.debugger.opened h.opened).pending)) in
-    stands-by m settings w s acts old new (act.DebuggerTurns r lost) (Events.DebuggerTurn ∷ []) (model.debugger_closed z) t (debuggers.lost_debugger after) b
+    stands-by m settings w first acts old new (act.DebuggerTurns r lost) (Events.DebuggerTurn ∷ []) (model.debugger_closed z) t (debuggers.lost_debugger after) b
     (goes-one m settings w (act.DebuggerTurns r lost) Events.DebuggerTurn b.world (model.debugger_closed z) (os ++ model.lost_tickets z.pending) (ap (λ q. where_did q Events.DebuggerTurn) h.did) h.goes (told-with os (model.lost_tickets z.pending) (lost_of lost) more))
     (debugger-after m settings w t d (debuggers.lost_debugger (debuggers.with_taken v.end.outgoing v)) (debuggers.lost_debugger after) t_in far twin.more true (model.debugger_closed z) (shut-lost m settings w l z unshut v true shut parts) (λ come. refl)
     (λ o. absurd (cc)) (twin.put ∙ ap (λ k. d.end.session.enqueued ++ k) (sym (append-nil twin.more))) refl b.agrees.to_target)
     (ap (λ q. q.target) is) (ap (λ q. q.debugger) is ∙ left)
-read-shut m settings w s acts old new r lost after unshut z false h waits shut parts gone is =
+read-shut m settings w first acts old new r lost after unshut z false h waits shut parts gone is =
     let t = old.target in
     let d = old.debugger in
     let b = h.standing in
@@ -395,41 +395,41 @@ read-shut m settings w s acts old new r lost after unshut z false h waits shut p
     let none : lost_of lost ≡ [] = ap lost_of (gone ∙ ap (λ q. lost_with q after) kept) in
     let more : lost_of lost ≡ told_outcomes (model.lost_tickets z.pending) =
     none ∙ (sym (ap lost_of (none-lost after.pending waits)) ∙ (ap (λ ps. lost_of (tickets_of ps)) shut.pending ∙ (lost-told unshut.pending ∙ ap (λ ps. told_outcomes (model.lost_tickets ps)) (parts.debugger.opened h.opened).pending))) in
-    stands-by m settings w s acts old new (act.DebuggerTurns r lost) (Events.DebuggerTurn ∷ []) (model.debugger_closed z) t after b
+    stands-by m settings w first acts old new (act.DebuggerTurns r lost) (Events.DebuggerTurn ∷ []) (model.debugger_closed z) t after b
     (goes-one m settings w (act.DebuggerTurns r lost) Events.DebuggerTurn b.world (model.debugger_closed z) (os ++ model.lost_tickets z.pending) (ap (λ q. where_did q Events.DebuggerTurn) h.did) h.goes (told-with os (model.lost_tickets z.pending) (lost_of lost) more))
     (debugger-after m settings w t d v after t_in far [] true (model.debugger_closed z) (shut-parts m settings w l z unshut v true shut (ap has_tickets (sym shut.pending) ∙ waits) parts) (λ come. refl)
     (λ o. absurd (cc)) twin.put refl b.agrees.to_target)
     (ap (λ q. q.target) is) (ap (λ q. q.debugger) is ∙ left)
 
 -- by whether it closes
-read-by : {S : Type 0} (m : Meaning S) (settings : Settings) (w : Widths) (s : S) (acts : List Act) (old new : Programs S) (r : Read) (lost : List Ticket) (after unshut : Debugger) (z : World S) (closes : Bool) → (h : ReadsSo m settings w s acts old r after z closes)
+read-by : {S : Type 0} (m : Meaning S) (settings : Settings) (w : Widths) (first : World S) (acts : List Act) (old new : Programs S) (r : Read) (lost : List Ticket) (after unshut : Debugger) (z : World S) (closes : Bool) → (h : ReadsSo m settings w first acts old r after z closes)
     → Shuts closes unshut (debugger_at after.end.incoming h.twin.more after) → Parts m settings w (reading_link old unshut) z
-    → lost ≡ lost_with (is_left after) after → new ≡ record old { debugger = settled (is_left after) after } → Stands m settings w s (acts ++ act.DebuggerTurns r lost ∷ []) new
-read-by m settings w s acts old new r lost after unshut z false h shuts parts gone is =
-    read-open m settings w s acts old new r lost after z h (subst (λ q. Parts m settings w (reading_link old q) z) (sym shuts) parts) gone is
-read-by m settings w s acts old new r lost after unshut z true h shuts parts gone is =
-    read-shut m settings w s acts old new r lost after unshut z (has_tickets after.pending) h refl shuts parts gone is
+    → lost ≡ lost_with (is_left after) after → new ≡ record old { debugger = settled (is_left after) after } → Stands m settings w first (acts ++ act.DebuggerTurns r lost ∷ []) new
+read-by m settings w first acts old new r lost after unshut z false h shuts parts gone is =
+    read-open m settings w first acts old new r lost after z h (subst (λ q. Parts m settings w (reading_link old q) z) (sym shuts) parts) gone is
+read-by m settings w first acts old new r lost after unshut z true h shuts parts gone is =
+    read-shut m settings w first acts old new r lost after unshut z (has_tickets after.pending) h refl shuts parts gone is
 
 goes-by : {S : Type 0} (freely turn left : World S × List Events.Outcome) → freely ≡ uncounted_first turn → turn ≡ left → freely ≡ uncounted_first left
 goes-by freely turn left a b = a ∙ ap uncounted_first b
 
-reads-open : {S : Type 0} (m : Meaning S) (settings : Settings) (w : Widths) (s : S) (acts : List Act) (old new : Programs S) (r : Read) (lost : List Ticket) (after : Debugger) → Laws m → (b : Standing m settings w s acts old)
+reads-open : {S : Type 0} (m : Meaning S) (settings : Settings) (w : Widths) (first : World S) (acts : List Act) (old new : Programs S) (r : Read) (lost : List Ticket) (after : Debugger) → Laws m → (b : Standing m settings w first acts old)
     → is_closed b.world.debugger ≡ false → is_paused old.debugger.end ≡ false
-    → turns.TurnsAt (front_of old.debugger.end) old.debugger (Ok r) after → lost ≡ lost_with (is_left after) after → new ≡ record old { debugger = settled (is_left after) after } → Stands m settings w s (acts ++ act.DebuggerTurns r lost ∷ []) new
-reads-open m settings w s acts old new r lost after laws b o p so gone is =
+    → turns.TurnsAt (front_of old.debugger.end) old.debugger (Ok r) after → lost ≡ lost_with (is_left after) after → new ≡ record old { debugger = settled (is_left after) after } → Stands m settings w first (acts ++ act.DebuggerTurns r lost ∷ []) new
+reads-open m settings w first acts old new r lost after laws b o p so gone is =
     let t = old.target in
     let d = old.debugger in
     let x = b.world in
-    let size = sized m settings w s acts old b in
+    let size = sized m settings w first acts old b in
     let l = link_at t d (t.end.incoming ++ far_from_target t d) (far_from_debugger t d) d.end.incoming [] in
     let y = record x { at_debugger = length d.end.incoming } in
     let parts = fed-parts m settings w t d x o b.stands.parts in
-    let known = known-across m laws.worlds settings w s acts y (reached-same m settings w s acts x y refl b.stands.reached) in
+    let known = known-across m laws.worlds settings w first acts y b.onward (reached-same m settings w first acts x y refl b.stands.reached) in
     let some = debugger-sized m settings w t d x size b.stands.parts in
     let keeps = debugger-keeps d.end.incoming d b.keeps in
     let front : front_of l.debugger.end ≡ front_of d.end = ap (λ q. cond q More (next_of d.end)) (unpaused d.end.limits.packet some ∙ sym p) in
     elim (debugger-has m settings w l y laws.finds size.small known parts) [
-      | inl h ↦ read-none m settings w s acts old new r lost after b (sym front ∙ h.front) so gone is
+      | inl h ↦ read-none m settings w first acts old new r lost after b (sym front ∙ h.front) so gone is
       | inr h ↦
           let message = message_sent w h.id h.packet.0 in
           let used = message_size w h.packet.0 in
@@ -441,16 +441,16 @@ reads-open m settings w s acts old new r lost after laws b o p so gone is =
           let freely = model.debugger_turn settings (unmeasured w settings.limits) (uncounted x) in
           let turn = model.debugger_turn settings (measured w settings.limits) y in
           let left = model.closes_by turned.world (outcomes_of (read_meaning r)) turned.closes in
-          read-by m settings w s acts old new r lost after turned.unshut turned.world turned.closes
+          read-by m settings w first acts old new r lost after turned.unshut turned.world turned.closes
           (record { standing = b; twin = does.twin; did = does.did; opened = turned.opened; goes = goes-by freely turn left goes turned.is })
           turned.shuts (turned.parts true) gone is
     ]
 
-pub turns-debugger : {S : Type 0} (m : Meaning S) (settings : Settings) (w : Widths) (s : S) (acts : List Act) (old new : Programs S) (r : Read) (lost : List Ticket) (after : Debugger) → Laws m → Standing m settings w s acts old
-    → turns.TurnsAt (front_of old.debugger.end) old.debugger (Ok r) after → lost ≡ lost_with (is_left after) after → new ≡ record old { debugger = settled (is_left after) after } → Stands m settings w s (acts ++ act.DebuggerTurns r lost ∷ []) new
-turns-debugger m settings w s acts old new r lost after laws b so gone is =
-    either (is_closed b.world.debugger) (Stands m settings w s (acts ++ act.DebuggerTurns r lost ∷ []) new)
-    (λ c. read-none m settings w s acts old new r lost after b (front-closed old.debugger.end b.world.debugger b.stands.parts.debugger.phase c) so gone is)
-    (λ o. either (is_paused old.debugger.end) (Stands m settings w s (acts ++ act.DebuggerTurns r lost ∷ []) new)
-    (λ q. read-none m settings w s acts old new r lost after b (front-paused old.debugger.end q) so gone is)
-    (λ p. reads-open m settings w s acts old new r lost after laws b o p so gone is))
+pub turns-debugger : {S : Type 0} (m : Meaning S) (settings : Settings) (w : Widths) (first : World S) (acts : List Act) (old new : Programs S) (r : Read) (lost : List Ticket) (after : Debugger) → Laws m → Standing m settings w first acts old
+    → turns.TurnsAt (front_of old.debugger.end) old.debugger (Ok r) after → lost ≡ lost_with (is_left after) after → new ≡ record old { debugger = settled (is_left after) after } → Stands m settings w first (acts ++ act.DebuggerTurns r lost ∷ []) new
+turns-debugger m settings w first acts old new r lost after laws b so gone is =
+    either (is_closed b.world.debugger) (Stands m settings w first (acts ++ act.DebuggerTurns r lost ∷ []) new)
+    (λ c. read-none m settings w first acts old new r lost after b (front-closed old.debugger.end b.world.debugger b.stands.parts.debugger.phase c) so gone is)
+    (λ o. either (is_paused old.debugger.end) (Stands m settings w first (acts ++ act.DebuggerTurns r lost ∷ []) new)
+    (λ q. read-none m settings w first acts old new r lost after b (front-paused old.debugger.end q) so gone is)
+    (λ p. reads-open m settings w first acts old new r lost after laws b o p so gone is))

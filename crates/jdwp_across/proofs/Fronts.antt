@@ -138,17 +138,17 @@ first-of settings w x p rest flows o first =
     ∙ (ap (λ b. cond b (whole_packet (unmeasured w settings.limits) 0 x.to_debugger) None) (flows-to-target w settings.limits x settings.limits.packet flows)
     ∙ ap (λ ps. whole_packet (unmeasured w settings.limits) 0 ps) first)
 
-front-open : {S : Type 0} (m : Meaning S) (settings : Settings) (w : Widths) (s : S) (acts : List Act) (v : Programs S) → Laws m → (b : Standing m settings w s acts v)
+front-open : {S : Type 0} (m : Meaning S) (settings : Settings) (w : Widths) (first : World S) (acts : List Act) (v : Programs S) → Laws m → (b : Standing m settings w first acts v)
     → is_closed b.world.debugger ≡ false → is_paused v.debugger.end ≡ false → (front_of v.debugger.end ≡ More) ⊎ HasFront m settings w v b.world
-front-open m settings w s acts v laws b o p =
+front-open m settings w first acts v laws b o p =
     let t = v.target in
     let d = v.debugger in
     let x = b.world in
-    let size = sized m settings w s acts v b in
+    let size = sized m settings w first acts v b in
     let l = link_at t d (t.end.incoming ++ far_from_target t d) (far_from_debugger t d) d.end.incoming [] in
     let y = record x { at_debugger = length d.end.incoming } in
     let parts = fed-parts m settings w t d x o b.stands.parts in
-    let known = known-across m laws.worlds settings w s acts y (reached-same m settings w s acts x y refl b.stands.reached) in
+    let known = known-across m laws.worlds settings w first acts y b.onward (reached-same m settings w first acts x y refl b.stands.reached) in
     let some = debugger-sized m settings w t d x size b.stands.parts in
     let keeps = debugger-keeps d.end.incoming d b.keeps in
     let front : front_of l.debugger.end ≡ front_of d.end = ap (λ q. cond q More (next_of d.end)) (unpaused d.end.limits.packet some ∙ sym p) in
@@ -167,11 +167,11 @@ front-open m settings w s acts v laws b o p =
       })
     ]
 
-pub has-front : {S : Type 0} (m : Meaning S) (settings : Settings) (w : Widths) (s : S) (acts : List Act) (v : Programs S) → Laws m → (b : Standing m settings w s acts v)
+pub has-front : {S : Type 0} (m : Meaning S) (settings : Settings) (w : Widths) (first : World S) (acts : List Act) (v : Programs S) → Laws m → (b : Standing m settings w first acts v)
     → (front_of v.debugger.end ≡ More) ⊎ HasFront m settings w v b.world
-has-front m settings w s acts v laws b =
+has-front m settings w first acts v laws b =
     either (is_closed b.world.debugger) ((front_of v.debugger.end ≡ More) ⊎ HasFront m settings w v b.world)
     (λ c. inl (front-closed v.debugger.end b.world.debugger b.stands.parts.debugger.phase c))
     (λ o. either (is_paused v.debugger.end) ((front_of v.debugger.end ≡ More) ⊎ HasFront m settings w v b.world)
     (λ q. inl (front-paused v.debugger.end q))
-    (λ p. front-open m settings w s acts v laws b o p))
+    (λ p. front-open m settings w first acts v laws b o p))

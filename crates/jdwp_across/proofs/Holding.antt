@@ -22,8 +22,9 @@ use Rattle.jdwp_link.specs.Links.{Link}
 use Rattle.jdwp_link.specs.Stands.{Parts}
 use Rattle.jdwp_link.specs.Wires.{waiting, without_ids}
 use Rattle.jdwp_link.proofs.Reached.{Known}
-use Rattle.jdwp_across.specs.Programs.{Act, events_in}
-use Rattle.jdwp_across.specs.Standing.{IsReachedBy, uncounted, unmeasured}
+use Rattle.jdwp_across.specs.Programs.{Act}
+use Rattle.jdwp_across.specs.Standing.{IsReachedBy, uncounted}
+use Rattle.jdwp_across.proofs.Onward.{Onward}
 use Rattle.jdwp_across.proofs.Reached.{known-across, reached-has}
 
 -- ---- what waits
@@ -97,37 +98,38 @@ unbroken m settings w l x k s own u = record {
 -- ---- the clauses
 
 -- they lead to this world, for which the link stands
-pub record LinkStands {S : Type 0} (m : Meaning S) (settings : Settings) (w : Widths) (s : S) (acts : List Act) (l : Link S) (x : World S) : Type 0 where
-  pub reached : IsReachedBy m settings w s acts x
+pub record LinkStands {S : Type 0} (m : Meaning S) (settings : Settings) (w : Widths) (first : World S) (acts : List Act) (l : Link S) (x : World S) : Type 0 where
+  pub onward : Onward m settings first
+  pub reached : IsReachedBy m settings w first acts x
   pub parts : Parts m settings w l x
   pub own : AreOwn l.debugger.pending
 
-pub holds-suspended : {S : Type 0} (m : Meaning S) → HoldsOfWorlds m → (settings : Settings) (w : Widths) (s : S) (acts : List Act) (l : Link S) (x : World S) → LinkStands m settings w s acts l x → HoldsSuspended l
-holds-suspended m worlds settings w s acts l x h =
-    let k = known-across m worlds settings w s acts x h.reached in
+pub holds-suspended : {S : Type 0} (m : Meaning S) → HoldsOfWorlds m → (settings : Settings) (w : Widths) (first : World S) (acts : List Act) (l : Link S) (x : World S) → LinkStands m settings w first acts l x → HoldsSuspended l
+holds-suspended m worlds settings w first acts l x h =
+    let k = known-across m worlds settings w first acts x h.onward h.reached in
     record {
       suspended = λ t held u z.
           let q : seen.unanswered lowers x.pending t ≡ 0 = sym (sum-same m settings w l x lowers t k h.parts h.own refl) ∙ z in
           subst (λ a. 0 < count_or_zero a.state t) (sym h.parts.target.now)
-          (reached-has m settings w s acts x HeldIsSuspended h.reached worlds.suspended t (sym (h.parts.debugger.mirror.held t) ∙ held) (unbroken m settings w l x k h.parts h.own u) q);
+          (reached-has m settings w first acts x HeldIsSuspended h.reached h.onward.suspended t (sym (h.parts.debugger.mirror.held t) ∙ held) (unbroken m settings w l x k h.parts h.own u) q);
       covered = λ t n held e u.
           let q = sum-same m settings w l x lowers t k h.parts h.own refl in
-          let r = reached-has m settings w s acts x HeldIsCovered h.reached worlds.covered t n (sym (h.parts.debugger.mirror.held t) ∙ held) (sym (h.parts.debugger.mirror.counts t) ∙ e) (unbroken m settings w l x k h.parts h.own u) in
+          let r = reached-has m settings w first acts x HeldIsCovered h.reached h.onward.covered t n (sym (h.parts.debugger.mirror.held t) ∙ held) (sym (h.parts.debugger.mirror.counts t) ∙ e) (unbroken m settings w l x k h.parts h.own u) in
           (r.0, subst (λ a. n ≤ count_or_zero a.state t + unanswered_by lowers (unanswered l.debugger.pending) t) (sym h.parts.target.now) (subst (λ j. n ≤ count_or_zero x.now.state t + j) (sym q) r.1));
     }
 
-pub counts-at-most : {S : Type 0} (m : Meaning S) → HoldsOfWorlds m → (settings : Settings) (w : Widths) (s : S) (acts : List Act) (l : Link S) (x : World S) → LinkStands m settings w s acts l x → CountsAtMost l x
-counts-at-most m worlds settings w s acts l x h t n k past known e c =
-    let q = sum-same m settings w l x raises t (known-across m worlds settings w s acts x h.reached) h.parts h.own refl in
-    let r = reached-has m settings w s acts x CountIsAtMost h.reached worlds.at_most t n k past (sym (h.parts.debugger.mirror.counts t) ∙ known) e c in
+pub counts-at-most : {S : Type 0} (m : Meaning S) → HoldsOfWorlds m → (settings : Settings) (w : Widths) (first : World S) (acts : List Act) (l : Link S) (x : World S) → LinkStands m settings w first acts l x → CountsAtMost l x
+counts-at-most m worlds settings w first acts l x h t n k past known e c =
+    let q = sum-same m settings w l x raises t (known-across m worlds settings w first acts x h.onward h.reached) h.parts h.own refl in
+    let r = reached-has m settings w first acts x CountIsAtMost h.reached h.onward.at_most t n k past (sym (h.parts.debugger.mirror.counts t) ∙ known) e c in
     subst (λ a. count_or_zero a.state t ≤ n + unanswered_by raises (unanswered l.debugger.pending) t + (composites_in x.parked + composites_in x.to_debugger)) (sym h.parts.target.now)
     (subst (λ j. count_or_zero x.now.state t ≤ n + j + (composites_in x.parked + composites_in x.to_debugger)) (sym q) r)
 
-pub mirrors-seen : {S : Type 0} (m : Meaning S) → HoldsOfWorlds m → (settings : Settings) (w : Widths) (s : S) (acts : List Act) (l : Link S) (x : World S) → LinkStands m settings w s acts l x → MirrorsSeen l x
-mirrors-seen m worlds settings w s acts l x h =
-    let knows = reached-has m settings w s acts x KnowsAndHolds h.reached worlds.known_and_held in
-    let counts = reached-has m settings w s acts x HasTheCounts h.reached worlds.counts in
-    let requests = reached-has m settings w s acts x HasTheRequests h.reached worlds.requests in
+pub mirrors-seen : {S : Type 0} (m : Meaning S) (settings : Settings) (w : Widths) (first : World S) (acts : List Act) (l : Link S) (x : World S) → LinkStands m settings w first acts l x → MirrorsSeen l x
+mirrors-seen m settings w first acts l x h =
+    let knows = reached-has m settings w first acts x KnowsAndHolds h.reached h.onward.known_and_held in
+    let counts = reached-has m settings w first acts x HasTheCounts h.reached h.onward.counts in
+    let requests = reached-has m settings w first acts x HasTheRequests h.reached h.onward.requests in
     let mirror = h.parts.debugger.mirror in
     record {
       known = λ t. ap is_some (mirror.counts t) ∙ (knows t).0;
@@ -137,11 +139,11 @@ mirrors-seen m worlds settings w s acts l x h =
       requests = mirror.requests ∙ requests;
     }
 
-pub stays-true : {S : Type 0} (m : Meaning S) → HoldsOfWorlds m → (settings : Settings) (w : Widths) (s : S) (acts : List Act) (l : Link S) (x : World S) → LinkStands m settings w s acts l x → StaysTrue m l x
-stays-true m worlds settings w s acts l x h t c content past asks lasts u none saw few =
-    let k = known-across m worlds settings w s acts x h.reached in
+pub stays-true : {S : Type 0} (m : Meaning S) → HoldsOfWorlds m → (settings : Settings) (w : Widths) (first : World S) (acts : List Act) (l : Link S) (x : World S) → LinkStands m settings w first acts l x → StaysTrue m l x
+stays-true m worlds settings w first acts l x h t c content past asks lasts u none saw few =
+    let k = known-across m worlds settings w first acts x h.onward h.reached in
     let q = sum-same m settings w l x lowers t k h.parts h.own refl in
     let write : lasting.has_write x.pending t ≡ false = sym (write-same m settings w l x t k h.parts h.own) ∙ none in
-    let r = subst (λ y. lasting.StaysTrue m settings y) h.reached.is (worlds.stays settings (unmeasured w settings.limits) s (events_in acts) h.reached.begins) t c content past asks lasts
+    let r = reached-has m settings w first acts x (lasting.StaysTrue m settings) h.reached h.onward.stays t c content past asks lasts
     (unbroken m settings w l x k h.parts h.own u) write saw (subst (λ n. n < count_or_zero past.state t) q few) in
     ap (λ a. (effect m l.target.settings a c).answer) h.parts.target.now ∙ (ap (λ v. (effect m v x.now c).answer) h.parts.target.same_settings ∙ r)

@@ -51,7 +51,7 @@ new-keeps limits id are small = record {
   id = small;
 }
 
-attached-keeps : (d : Debugger) → Keeps d → Keeps (debuggers.attached d)
+pub attached-keeps : (d : Debugger) → Keeps d → Keeps (debuggers.attached d)
 attached-keeps d k = record {
   limits = k.limits;
   distinct = distinct-none;
@@ -216,11 +216,24 @@ handled-keeps streams.Handshake used d r after front (told, none, is) k = subst 
 handled-keeps (streams.Packet header body) used d r after front h k =
     enters-keeps header body used d (read_meaning r) after h.news (open-at (is_paused d.end) d.end.limits.packet d.end.phase d.end.incoming (streams.Packet header body) used front) (record { body = body; front = front; said = h.said }) h.entered k
 
-turn-keeps : (f : NextMessage) (d : Debugger) (r : Read) (after : Debugger) → front_of d.end ≡ f → turns.TurnsAt f d (Ok r) after → Keeps d → Keeps after
+pub turn-keeps : (f : NextMessage) (d : Debugger) (r : Read) (after : Debugger) → front_of d.end ≡ f → turns.TurnsAt f d (Ok r) after → Keeps d → Keeps after
 turn-keeps (Whole message used) d r after front h k = handled-keeps message used d r after front h k
 turn-keeps More d r after front (told, is) k =
     subst Keeps (sym is) (record { limits = k.limits; distinct = k.distinct; own = k.own; begins = λ h. k.begins h; alone = λ o e. k.alone o e; unlearned = k.unlearned; unparked = k.unparked; id = k.id })
 turn-keeps (Fault fault) d r after front (told, is) k = absurd (cc)
+
+-- what came is refused
+pub refused-keeps : (d : Debugger) → Keeps d → Keeps (turns.refused d)
+refused-keeps d k = record {
+  limits = k.limits;
+  distinct = k.distinct;
+  own = k.own;
+  begins = λ h. absurd (cc);
+  alone = λ o e. absurd (cc);
+  unlearned = λ h. refl;
+  unparked = λ w h. refl;
+  id = k.id;
+}
 
 -- ---- an act
 

@@ -1,4 +1,5 @@
 mod Unmeasured
+mod Onward
 mod Reached
 mod Cutting
 mod Keeping
@@ -29,3 +30,12 @@ mod Twins
 mod Sure
 mod Asked
 mod HeldApart
+mod Served
+mod OtherTargets
+mod SettlesOn
+mod StaysOn
+mod TellsOn
+mod Resting
+mod Meeting
+mod MeetingWithin
+mod Sessions

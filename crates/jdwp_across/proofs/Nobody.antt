@@ -26,8 +26,16 @@ use Rattle.jdwp_across.proofs.Turning.{none-turns}
 
 -- ---- one that is closed
 
-Forgets : Debugger → Type 0
+pub Forgets : Debugger → Type 0
 Forgets d = is_open d.end ≡ false → d.mirror ≡ empty_mirror
+
+pub none-forgets : (d : Debugger) → d.mirror ≡ empty_mirror → Forgets d
+unfolding Forgets
+none-forgets d none shut = none
+
+pub forgets-shut : (d : Debugger) → Forgets d → is_open d.end ≡ false → d.mirror ≡ empty_mirror
+unfolding Forgets
+forgets-shut d h shut = h shut
 
 open-forgets : (d : Debugger) → is_open d.end ≡ true → Forgets d
 unfolding Forgets
@@ -64,17 +72,17 @@ handles-forgets : (message : streams.Message) (used : ℕ) (old new : Debugger) 
 handles-forgets streams.Handshake used old new r h = subst Forgets (sym h.2) (open-forgets (turns.greeted used old) refl)
 handles-forgets (streams.Packet header body) used old new r h = enters-forgets (streams.Packet header body) used header h.news old new (read_meaning r) h.entered
 
-turn-forgets : (next : NextMessage) (old new : Debugger) (r : Read) → TurnsAt next old (Ok r) new → Forgets old → Forgets new
+pub turn-forgets : (next : NextMessage) (old new : Debugger) (r : Read) → TurnsAt next old (Ok r) new → Forgets old → Forgets new
 unfolding Forgets
 turn-forgets (Whole message used) old new r h before shut = handles-forgets message used old new r h shut
 turn-forgets More old new r h before shut = subst (λ (d : Debugger). is_open d.end ≡ false → d.mirror ≡ empty_mirror) (sym h.1) before shut
 turn-forgets (Fault fault) old new r h before shut = absurd (let e = h.0 in cc)
 
-same-forgets : (old new : Debugger) → new.end.phase ≡ old.end.phase → new.mirror ≡ old.mirror → Forgets old → Forgets new
+pub same-forgets : (old new : Debugger) → new.end.phase ≡ old.end.phase → new.mirror ≡ old.mirror → Forgets old → Forgets new
 unfolding Forgets
 same-forgets old new phase mirror h shut = mirror ∙ h (ap (λ p. is_open_phase p) (sym phase) ∙ shut)
 
-act-forgets : {S : Type 0} (m : Meaning S) (act : Act) (old new : Programs S) → Does m act old new → Forgets old.debugger → Forgets new.debugger
+pub act-forgets : {S : Type 0} (m : Meaning S) (act : Act) (old new : Programs S) → Does m act old new → Forgets old.debugger → Forgets new.debugger
 unfolding Forgets
 act-forgets m Connects old new (shut, unheard, lives, is) h = subst (λ v. Forgets v.debugger) (sym is) (λ closed. refl)
 act-forgets m (ComesToTarget bytes) old new is h = subst (λ v. Forgets v.debugger) (sym is) h

@@ -8,16 +8,16 @@ use Rattle.jdwp_model.specs.Deferred.{DefersFew}
 use Rattle.jdwp_model.specs.Events as events
 use Rattle.jdwp_model.specs.Events.{LinkEvent}
 use Rattle.jdwp_model.specs.Faultless.{AnswersOneWaiting, NoCallIsRefused, NoPacketIsRefused}
-use Rattle.jdwp_model.specs.Headline.{Always}
 use Rattle.jdwp_model.specs.Next.{next, outcomes, run}
 use Rattle.jdwp_model.specs.Places.{EachAtOnePlace}
 use Rattle.jdwp_model.specs.Soundness.{StandsSoundly}
-use Rattle.jdwp_model.specs.World.{Measure, World, opening}
+use Rattle.jdwp_model.specs.World.{Measure, World}
 use Rattle.jdwp_link.specs.Laws.{HoldsOfWorlds}
 use Rattle.jdwp_link.specs.Told.{outcome_told, told_outcomes}
 use Rattle.jdwp_link.proofs.Reached.{Known}
 use Rattle.jdwp_across.specs.Programs.{Act, events_in, events_of, told_by, told_in}
 use Rattle.jdwp_across.specs.Standing.{IsReachedBy, uncounted, unmeasured}
+use Rattle.jdwp_across.proofs.Onward.{From, Onward}
 
 -- ---- one act more
 
@@ -47,33 +47,32 @@ pub record GoesBy {S : Type 0} (m : Meaning S) (settings : Settings) (w : Widths
   pub is : run m settings (unmeasured w settings.limits) (uncounted x) es ≡ uncounted y
   pub tells : told_by act ≡ told_outcomes (outcomes m settings (unmeasured w settings.limits) (uncounted x) es)
 
-pub reached-more : {S : Type 0} (m : Meaning S) (settings : Settings) (w : Widths) (s : S) (acts : List Act) (act : Act) (es : List LinkEvent) (x y : World S)
-    → IsReachedBy m settings w s acts x → GoesBy m settings w act es x y → IsReachedBy m settings w s (acts ++ act ∷ []) y
-reached-more m settings w s acts act es x y r g =
+pub reached-more : {S : Type 0} (m : Meaning S) (settings : Settings) (w : Widths) (first : World S) (acts : List Act) (act : Act) (es : List LinkEvent) (x y : World S)
+    → IsReachedBy m settings w first acts x → GoesBy m settings w act es x y → IsReachedBy m settings w first (acts ++ act ∷ []) y
+reached-more m settings w first acts act es x y r g =
     let measure = unmeasured w settings.limits in
     let all : events_in (acts ++ act ∷ []) ≡ events_in acts ++ es = events-more acts act ∙ ap (λ e. events_in acts ++ e) g.events in
     record {
-      begins = r.begins;
-      is = ap (run m settings measure (opening m s)) all ∙ (run-append m settings measure (opening m s) (events_in acts) es ∙ (ap (λ z. run m settings measure z es) r.is ∙ g.is));
+      is = ap (run m settings measure first) all ∙ (run-append m settings measure first (events_in acts) es ∙ (ap (λ z. run m settings measure z es) r.is ∙ g.is));
       tells = told-more acts act
           ∙ (ap (λ os. os ++ told_by act) r.tells
-          ∙ (ap (λ os. told_outcomes (outcomes m settings measure (opening m s) (events_in acts)) ++ os) (g.tells ∙ ap (λ z. told_outcomes (outcomes m settings measure z es)) (sym r.is))
-          ∙ (sym (map-append outcome_told (outcomes m settings measure (opening m s) (events_in acts)) (outcomes m settings measure (run m settings measure (opening m s) (events_in acts)) es))
-          ∙ ap told_outcomes (sym (ap (outcomes m settings measure (opening m s)) all ∙ outcomes-append m settings measure (opening m s) (events_in acts) es)))));
+          ∙ (ap (λ os. told_outcomes (outcomes m settings measure first (events_in acts)) ++ os) (g.tells ∙ ap (λ z. told_outcomes (outcomes m settings measure z es)) (sym r.is))
+          ∙ (sym (map-append outcome_told (outcomes m settings measure first (events_in acts)) (outcomes m settings measure (run m settings measure first (events_in acts)) es))
+          ∙ ap told_outcomes (sym (ap (outcomes m settings measure first) all ∙ outcomes-append m settings measure first (events_in acts) es)))));
     }
 
 -- another world that differs by how many bytes came
-pub reached-same : {S : Type 0} (m : Meaning S) (settings : Settings) (w : Widths) (s : S) (acts : List Act) (x y : World S) → uncounted x ≡ uncounted y → IsReachedBy m settings w s acts x → IsReachedBy m settings w s acts y
-reached-same m settings w s acts x y e r = record { begins = r.begins; is = r.is ∙ e; tells = r.tells }
+pub reached-same : {S : Type 0} (m : Meaning S) (settings : Settings) (w : Widths) (first : World S) (acts : List Act) (x y : World S) → uncounted x ≡ uncounted y → IsReachedBy m settings w first acts x → IsReachedBy m settings w first acts y
+reached-same m settings w first acts x y e r = record { is = r.is ∙ e; tells = r.tells }
 
 -- ---- what is known
 
-pub reached-has : {S : Type 0} (m : Meaning S) (settings : Settings) (w : Widths) (s : S) (acts : List Act) (x : World S) (P : World S → Type 0) → IsReachedBy m settings w s acts x → Always m P → P (uncounted x)
-reached-has m settings w s acts x P r a = subst P r.is (a settings (unmeasured w settings.limits) s (events_in acts) r.begins)
+pub reached-has : {S : Type 0} (m : Meaning S) (settings : Settings) (w : Widths) (first : World S) (acts : List Act) (x : World S) (P : World S → Type 0) → IsReachedBy m settings w first acts x → From m settings first P → P (uncounted x)
+reached-has m settings w first acts x P r a = subst P r.is (a (unmeasured w settings.limits) (events_in acts))
 
-pub known-across : {S : Type 0} (m : Meaning S) → HoldsOfWorlds m → (settings : Settings) (w : Widths) (s : S) (acts : List Act) (x : World S) → IsReachedBy m settings w s acts x → Known m settings x
-known-across m worlds settings w s acts x r =
-    let stands = subst (λ y. StandsSoundly m settings y) r.is (worlds.soundly settings (unmeasured w settings.limits) s (events_in acts) r.begins) in
+pub known-across : {S : Type 0} (m : Meaning S) → HoldsOfWorlds m → (settings : Settings) (w : Widths) (first : World S) (acts : List Act) (x : World S) → Onward m settings first → IsReachedBy m settings w first acts x → Known m settings x
+known-across m worlds settings w first acts x onward r =
+    let stands = reached-has m settings w first acts x (StandsSoundly m settings) r onward.soundly in
     record {
       sound = stands.sound;
       facts = worlds.facts settings;
@@ -81,11 +80,11 @@ known-across m worlds settings w s acts x r =
       idle = stands.idle;
       unlost = stands.unlost;
       shut = stands.shut;
-      packet = reached-has m settings w s acts x NoPacketIsRefused r worlds.packets;
-      call = reached-has m settings w s acts x NoCallIsRefused r worlds.calls;
-      one = reached-has m settings w s acts x AnswersOneWaiting r worlds.one;
-      places = reached-has m settings w s acts x EachAtOnePlace r worlds.places;
-      few = let f = reached-has m settings w s acts x DefersFew r worlds.few in record { few = f.few; deferrable = f.deferrable; none = f.none };
+      packet = reached-has m settings w first acts x NoPacketIsRefused r onward.packets;
+      call = reached-has m settings w first acts x NoCallIsRefused r onward.calls;
+      one = reached-has m settings w first acts x AnswersOneWaiting r onward.one;
+      places = reached-has m settings w first acts x EachAtOnePlace r onward.places;
+      few = let f = reached-has m settings w first acts x DefersFew r onward.few in record { few = f.few; deferrable = f.deferrable; none = f.none };
     }
 
 -- ---- how an act goes

@@ -9,10 +9,10 @@ use Rattle.jdwp_mirror.specs.Messages as mirror
 use Rattle.jdwp_debugger.specs.Debuggers.{tickets_of}
 use Rattle.jdwp_debugger.specs.declared.pending.Ticket.{Ticket}
 use Rattle.jdwp_model.specs.Events as events
-use Rattle.jdwp_model.specs.Given.{IsIn, TellsWhatWasGiven, given_answers, told_answers}
+use Rattle.jdwp_model.specs.Given.{IsIn, given_answers, told_answers}
 use Rattle.jdwp_model.specs.Next.{lost_tickets, outcomes}
-use Rattle.jdwp_model.specs.Tickets.{SettlesOnce, settled, tickets, tickets_to, times}
-use Rattle.jdwp_model.specs.World.{World, opening}
+use Rattle.jdwp_model.specs.Tickets.{settled, tickets, tickets_to, times}
+use Rattle.jdwp_model.specs.World.{World}
 use Rattle.jdwp_link.specs.EventParts.{lost_of}
 use Rattle.jdwp_link.specs.Links.{Link}
 use Rattle.jdwp_link.specs.Outcomes.{answers_in, settled_in, waiting_at}
@@ -22,6 +22,7 @@ use Rattle.jdwp_link.proofs.Losing.{loses-tells}
 use Rattle.jdwp_link.proofs.Reached.{Known}
 use Rattle.jdwp_across.specs.Programs.{Act, events_in, told_in}
 use Rattle.jdwp_across.specs.Standing.{IsReachedBy, unmeasured}
+use Rattle.jdwp_across.proofs.Onward.{SettlesFrom, TellsFrom}
 
 -- ---- tickets
 
@@ -47,13 +48,14 @@ waits-are : {S : Type 0} (m : Meaning S) (settings : Settings) (w : Widths) (l :
 waits-are m settings w l x k s =
     sym (settled-lost-of (tickets_of l.debugger.pending)) ∙ (ap settled_in (loses-tells m settings w l x k s) ∙ (settled-told (lost_tickets x.pending) ∙ settled-lost x.pending))
 
-pub settles-once : {S : Type 0} (m : Meaning S) → SettlesOnce m → (settings : Settings) (w : Widths) (s : S) (acts : List Act) (l : Link S) (x : World S) (k : ℕ) → Known m settings x → IsReachedBy m settings w s acts x → Parts m settings w l x
-    → times k (settled_in (told_in acts) ++ waiting_at l.debugger) ≡ times k (tickets_to l.debugger.tickets)
-settles-once m once settings w s acts l x k known r parts =
-    let os = outcomes m settings (unmeasured w settings.limits) (opening m s) (events_in acts) in
-    ap (λ q. times k (q ++ waiting_at l.debugger)) (ap settled_in r.tells ∙ settled-told os)
-    ∙ (ap (λ q. times k (settled os ++ q)) (waits-are m settings w l x known parts)
-    ∙ (subst (λ (y : World _). times k (settled os ++ tickets y.pending) ≡ times k (tickets_to y.asked)) r.is (once settings (unmeasured w settings.limits) s (events_in acts) k r.begins)
+pub settles-once : {S : Type 0} (m : Meaning S) (settings : Settings) (w : Widths) (first : World S) (acts : List Act) (l : Link S) (x : World S) (k : ℕ) → SettlesFrom m settings first → Known m settings x → IsReachedBy m settings w first acts x
+    → Parts m settings w l x → times k (tickets_to first.asked ++ (settled_in (told_in acts) ++ waiting_at l.debugger)) ≡ times k (tickets_to l.debugger.tickets)
+settles-once m settings w first acts l x k once known r parts =
+    let os = outcomes m settings (unmeasured w settings.limits) first (events_in acts) in
+    let before = tickets_to first.asked in
+    ap (λ q. times k (before ++ (q ++ waiting_at l.debugger))) (ap settled_in r.tells ∙ settled-told os)
+    ∙ (ap (λ q. times k (before ++ (settled os ++ q))) (waits-are m settings w l x known parts)
+    ∙ (subst (λ (y : World _). times k (before ++ (settled os ++ tickets y.pending)) ≡ times k (tickets_to y.asked)) r.is (once (unmeasured w settings.limits) (events_in acts) k)
     ∙ ap (λ n. times k (tickets_to n)) (sym parts.debugger.tickets)))
 
 -- ---- answers
@@ -66,8 +68,8 @@ answers-told (events.Asked k ∷ os) = answers-told os
 answers-told (events.Refused r ∷ os) = answers-told os
 answers-told (events.Seen c ∷ os) = answers-told os
 
-pub tells-given : {S : Type 0} (m : Meaning S) → TellsWhatWasGiven m → (settings : Settings) (w : Widths) (s : S) (acts : List Act) (x : World S) (p : ℕ × Answer) → IsReachedBy m settings w s acts x
-    → IsIn (answers_in (told_in acts)) p → IsIn (given_answers m settings (unmeasured w settings.limits) (opening m s) (events_in acts)) p
-tells-given m given settings w s acts x p r h =
-    let os = outcomes m settings (unmeasured w settings.limits) (opening m s) (events_in acts) in
-    given settings (unmeasured w settings.limits) s (events_in acts) p (subst (λ l. IsIn l p) (ap answers_in r.tells ∙ answers-told os) h)
+pub tells-given : {S : Type 0} (m : Meaning S) (settings : Settings) (w : Widths) (first : World S) (acts : List Act) (x : World S) (p : ℕ × Answer) → TellsFrom m settings first → IsReachedBy m settings w first acts x
+    → IsIn (answers_in (told_in acts)) p → IsIn (given_answers m settings (unmeasured w settings.limits) first (events_in acts)) p
+tells-given m settings w first acts x p given r h =
+    let os = outcomes m settings (unmeasured w settings.limits) first (events_in acts) in
+    given (unmeasured w settings.limits) (events_in acts) p (subst (λ l. IsIn l p) (ap answers_in r.tells ∙ answers-told os) h)

@@ -21,6 +21,7 @@ use Rattle.jdwp_across.specs.Merges.{Agrees}
 use Rattle.jdwp_across.specs.Standing.{StandsAcross, buffered, debugger_at, joined}
 use Rattle.jdwp_across.proofs.Cutting.{After}
 use Rattle.jdwp_across.proofs.Keeping.{Keeps}
+use Rattle.jdwp_across.proofs.Onward.{Onward}
 use Rattle.jdwp_across.proofs.Reached.{GoesBy, goes-idle, reached-more, reached-same}
 
 pub either : (b : Bool) (P : Type 0) → (b ≡ true → P) → (b ≡ false → P) → P
@@ -29,10 +30,12 @@ either false P f g = g refl
 
 -- ---- before an act
 
--- they stand for a world after these acts, the debugger keeps what every debugger does, and the connection agrees
-pub record Standing {S : Type 0} (m : Meaning S) (settings : Settings) (w : Widths) (s : S) (acts : List Act) (programs : Programs S) : Type 0 where
+-- they stand for a world after these acts, from one from which all goes well; the debugger keeps what every debugger does, and the connection
+-- agrees
+pub record Standing {S : Type 0} (m : Meaning S) (settings : Settings) (w : Widths) (first : World S) (acts : List Act) (programs : Programs S) : Type 0 where
+  pub onward : Onward m settings first
   pub world : World S
-  pub stands : StandsAcross m settings w s acts programs world
+  pub stands : StandsAcross m settings w first acts programs world
   pub keeps : Keeps programs.debugger
   pub agrees : Agrees programs
 
@@ -41,8 +44,8 @@ pub record Sized (packet : ℕ) : Type 0 where
   pub some : 0 < packet
   pub small : packet < 2 ^ 32
 
-pub sized : {S : Type 0} (m : Meaning S) (settings : Settings) (w : Widths) (s : S) (acts : List Act) (old : Programs S) → Standing m settings w s acts old → Sized settings.limits.packet
-sized m settings w s acts old b =
+pub sized : {S : Type 0} (m : Meaning S) (settings : Settings) (w : Widths) (first : World S) (acts : List Act) (old : Programs S) → Standing m settings w first acts old → Sized settings.limits.packet
+sized m settings w first acts old b =
     let same = ap (λ n. n.packet) b.stands.parts.debugger.limits in
     let least = b.keeps.limits.packet_least in
     let most = b.keeps.limits.packet_most in
@@ -85,28 +88,28 @@ way-none-target m settings w t d x finds size s = ap (λ n. nat_lt n settings.li
 
 -- ---- after it
 
-pub record Stands {S : Type 0} (m : Meaning S) (settings : Settings) (w : Widths) (s : S) (acts : List Act) (programs : Programs S) : Type 0 where
+pub record Stands {S : Type 0} (m : Meaning S) (settings : Settings) (w : Widths) (first : World S) (acts : List Act) (programs : Programs S) : Type 0 where
   pub world : World S
-  pub stands : StandsAcross m settings w s acts programs world
+  pub stands : StandsAcross m settings w first acts programs world
 
 -- the act is these events, and this is what it leaves of both
-pub stands-by : {S : Type 0} (m : Meaning S) (settings : Settings) (w : Widths) (s : S) (acts : List Act) (old new : Programs S) (act : Act) (es : List LinkEvent) (y : World S) (t : Target S) (d : Debugger) → (b : Standing m settings w s acts old)
-    → GoesBy m settings w act es b.world y → After m settings w t d y → new.target ≡ t → new.debugger ≡ d → Stands m settings w s (acts ++ act ∷ []) new
-stands-by m settings w s acts old new act es y t d b goes after same_t same_d = record {
+pub stands-by : {S : Type 0} (m : Meaning S) (settings : Settings) (w : Widths) (first : World S) (acts : List Act) (old new : Programs S) (act : Act) (es : List LinkEvent) (y : World S) (t : Target S) (d : Debugger) → (b : Standing m settings w first acts old)
+    → GoesBy m settings w act es b.world y → After m settings w t d y → new.target ≡ t → new.debugger ≡ d → Stands m settings w first (acts ++ act ∷ []) new
+stands-by m settings w first acts old new act es y t d b goes after same_t same_d = record {
   world = after.world;
   stands = record {
-    reached = reached-same m settings w s (acts ++ act ∷ []) y after.world after.same (reached-more m settings w s acts act es b.world y b.stands.reached goes);
+    reached = reached-same m settings w first (acts ++ act ∷ []) y after.world after.same (reached-more m settings w first acts act es b.world y b.stands.reached goes);
     parts = subst (λ u. Parts m settings w (joined u new.debugger) after.world) (sym same_t) (subst (λ u. Parts m settings w (joined t u) after.world) (sym same_d) after.parts);
   };
 }
 
 -- it does nothing
-pub stands-still : {S : Type 0} (m : Meaning S) (settings : Settings) (w : Widths) (s : S) (acts : List Act) (old new : Programs S) (act : Act) → Standing m settings w s acts old
-    → events_of act ≡ [] → told_by act ≡ [] → new.target ≡ old.target → new.debugger ≡ old.debugger → Stands m settings w s (acts ++ act ∷ []) new
-stands-still m settings w s acts old new act b none told same_t same_d = record {
+pub stands-still : {S : Type 0} (m : Meaning S) (settings : Settings) (w : Widths) (first : World S) (acts : List Act) (old new : Programs S) (act : Act) → Standing m settings w first acts old
+    → events_of act ≡ [] → told_by act ≡ [] → new.target ≡ old.target → new.debugger ≡ old.debugger → Stands m settings w first (acts ++ act ∷ []) new
+stands-still m settings w first acts old new act b none told same_t same_d = record {
   world = b.world;
   stands = record {
-    reached = reached-more m settings w s acts act [] b.world b.world b.stands.reached (goes-idle m settings w act b.world none told);
+    reached = reached-more m settings w first acts act [] b.world b.world b.stands.reached (goes-idle m settings w act b.world none told);
     parts = subst (λ t. Parts m settings w (joined t new.debugger) b.world) (sym same_t) (subst (λ d. Parts m settings w (joined old.target d) b.world) (sym same_d) b.stands.parts);
   };
 }

@@ -64,52 +64,63 @@ debugger-next m first last moves all move old runs front at =
 
 -- ---- all of them
 
-behind : {S : Type 0} (m : Meaning S) (first old new : Programs S) (before acts : List Act) (act : Act) → Merged m first (before ++ Connects ∷ acts) old → Does m act old new → Agrees new
-    → Merged m first (before ++ Connects ∷ (acts ++ act ∷ [])) new
+behind : {S : Type 0} (m : Meaning S) (first old new : Programs S) (before acts : List Act) (act : Act) → Merged m first (before ++ acts) old → Does m act old new → Agrees new
+    → Merged m first (before ++ (acts ++ act ∷ [])) new
 behind m first old new before acts act h does agrees =
-    subst (λ x. Merged m first x new) (append_assoc before (Connects ∷ acts) (act ∷ [])) (More (before ++ Connects ∷ acts) act old new h does agrees)
+    subst (λ x. Merged m first x new) (append_assoc before acts (act ∷ [])) (More (before ++ acts) act old new h does agrees)
+
+behind-none : {S : Type 0} (m : Meaning S) (first : Programs S) (before : List Act) (programs : Programs S) → Merged m first before programs → Merged m first (before ++ []) programs
+behind-none m first before programs h = subst (λ x. Merged m first x programs) (sym (append-nil before)) h
 
 -- moves of an end that began first, while nothing comes to it
 target-ahead : {S : Type 0} (m : Meaning S) (first : Programs S) (before acts : List Act) (t last : Target S) (d : Debugger) (ts rest : List (Move (Target S))) → d.end.session.fed ≡ []
-    → Merged m first (before ++ Connects ∷ acts) (both t d) → TargetRuns m t (ts ++ rest) last → NothingCame (λ (x : Target S). x.end) ts → Merged m first (before ++ Connects ∷ (acts ++ acts_of ts)) (both (last_of t ts) d)
-target-ahead m first before acts t last d [] rest unfed h runs none = subst (λ x. Merged m first (before ++ Connects ∷ x) (both t d)) (sym (append-nil acts)) h
+    → Merged m first (before ++ acts) (both t d) → TargetRuns m t (ts ++ rest) last → NothingCame (λ (x : Target S). x.end) ts → Merged m first (before ++ (acts ++ acts_of ts)) (both (last_of t ts) d)
+target-ahead m first before acts t last d [] rest unfed h runs none = subst (λ x. Merged m first (before ++ x) (both t d)) (sym (append-nil acts)) h
 target-ahead m first before acts t last d (move ∷ ts) rest unfed h runs none =
     let agrees : Agrees (both move.behind d) = record {
       to_target = (d.end.session.enqueued, sym (ap (λ x. x ++ d.end.session.enqueued) none.0));
       to_debugger = (move.behind.end.session.enqueued, sym (ap (λ x. x ++ move.behind.end.session.enqueued) unfed));
     } in
     let next = behind m first (both t d) (both move.behind d) before acts move.act h (runs.0.1 d) agrees in
-    subst (λ x. Merged m first (before ++ Connects ∷ x) (both (last_of move.behind ts) d)) (append_assoc acts (move.act ∷ []) (acts_of ts))
+    subst (λ x. Merged m first (before ++ x) (both (last_of move.behind ts) d)) (append_assoc acts (move.act ∷ []) (acts_of ts))
     (target-ahead m first before (acts ++ move.act ∷ []) move.behind last d ts rest unfed next runs.1 none.1)
 
 debugger-ahead : {S : Type 0} (m : Meaning S) (first : Programs S) (before acts : List Act) (t : Target S) (d last : Debugger) (ds rest : List (Move Debugger)) → t.end.session.fed ≡ []
-    → Merged m first (before ++ Connects ∷ acts) (both t d) → DebuggerRuns m d (ds ++ rest) last → NothingCame (λ (x : Debugger). x.end) ds → Merged m first (before ++ Connects ∷ (acts ++ acts_of ds)) (both t (last_of d ds))
-debugger-ahead m first before acts t d last [] rest unfed h runs none = subst (λ x. Merged m first (before ++ Connects ∷ x) (both t d)) (sym (append-nil acts)) h
+    → Merged m first (before ++ acts) (both t d) → DebuggerRuns m d (ds ++ rest) last → NothingCame (λ (x : Debugger). x.end) ds → Merged m first (before ++ (acts ++ acts_of ds)) (both t (last_of d ds))
+debugger-ahead m first before acts t d last [] rest unfed h runs none = subst (λ x. Merged m first (before ++ x) (both t d)) (sym (append-nil acts)) h
 debugger-ahead m first before acts t d last (move ∷ ds) rest unfed h runs none =
     let agrees : Agrees (both t move.behind) = record {
       to_target = (move.behind.end.session.enqueued, sym (ap (λ x. x ++ move.behind.end.session.enqueued) unfed));
       to_debugger = (t.end.session.enqueued, sym (ap (λ x. x ++ t.end.session.enqueued) none.0));
     } in
     let next = behind m first (both t d) (both t move.behind) before acts move.act h (runs.0.1 t) agrees in
-    subst (λ x. Merged m first (before ++ Connects ∷ x) (both t (last_of move.behind ds))) (append_assoc acts (move.act ∷ []) (acts_of ds))
+    subst (λ x. Merged m first (before ++ x) (both t (last_of move.behind ds))) (append_assoc acts (move.act ∷ []) (acts_of ds))
     (debugger-ahead m first before (acts ++ move.act ∷ []) t move.behind last ds rest unfed next runs.1 none.1)
 
+pub merges-behind : {S : Type 0} (m : Meaning S) (first old : Programs S) (before acts : List Act) (programs : Programs S) (ts all_ts : List (Move (Target S))) (ds all_ds : List (Move Debugger)) (target : Target S) (debugger : Debugger)
+    → Merged m first before (begun old) → TargetRuns m (opened_target old.target) all_ts target → DebuggerRuns m (attached old.debugger) all_ds debugger → AreFirst ts all_ts → AreFirst ds all_ds → Meets old ts ds acts programs
+    → Merged m first (before ++ acts) programs
+merges-behind m first old before acts programs ts all_ts ds all_ds target debugger start t_runs d_runs t_front d_front Together = behind-none m first before (begun old) start
+merges-behind m first old before acts programs ts all_ts ds all_ds target debugger start t_runs d_runs t_front d_front (TargetFirst ts' none) =
+    target-ahead m first before [] (opened_target old.target) target (attached old.debugger) ts' t_front.0 refl (behind-none m first before (begun old) start) (subst (λ x. TargetRuns m (opened_target old.target) x target) t_front.1 t_runs) none
+merges-behind m first old before acts programs ts all_ts ds all_ds target debugger start t_runs d_runs t_front d_front (DebuggerFirst ds' none) =
+    debugger-ahead m first before [] (opened_target old.target) (attached old.debugger) debugger ds' d_front.0 refl (behind-none m first before (begun old) start) (subst (λ x. DebuggerRuns m (attached old.debugger) x debugger) d_front.1 d_runs) none
+merges-behind m first old before acts programs ts all_ts ds all_ds target debugger start t_runs d_runs t_front d_front (ByTarget ts' ds' acts' move now h agrees) =
+    let so = merges-behind m first old before acts' now ts' all_ts ds' all_ds target debugger start t_runs d_runs (fewer ts' all_ts move t_front) d_front h in
+    let does = target-next m (opened_target old.target) target ts' all_ts move now.target t_runs t_front (stand old ts' ds' acts' now h).target in
+    behind m first now (both move.behind now.debugger) before acts' move.act so (does.1 now.debugger) agrees
+merges-behind m first old before acts programs ts all_ts ds all_ds target debugger start t_runs d_runs t_front d_front (ByDebugger ts' ds' acts' move now h agrees) =
+    let so = merges-behind m first old before acts' now ts' all_ts ds' all_ds target debugger start t_runs d_runs t_front (fewer ds' all_ds move d_front) h in
+    let does = debugger-next m (attached old.debugger) debugger ds' all_ds move now.debugger d_runs d_front (stand old ts' ds' acts' now h).debugger in
+    behind m first now (both now.target move.behind) before acts' move.act so (does.1 now.target) agrees
+
+-- where the session began behind other acts
 pub merges : {S : Type 0} (m : Meaning S) (first old : Programs S) (before acts : List Act) (programs : Programs S) (ts all_ts : List (Move (Target S))) (ds all_ds : List (Move Debugger)) (target : Target S) (debugger : Debugger)
     → Merged m first (before ++ Connects ∷ []) (begun old) → TargetRuns m (opened_target old.target) all_ts target → DebuggerRuns m (attached old.debugger) all_ds debugger → AreFirst ts all_ts → AreFirst ds all_ds → Meets old ts ds acts programs
     → Merged m first (before ++ Connects ∷ acts) programs
-merges m first old before acts programs ts all_ts ds all_ds target debugger start t_runs d_runs t_front d_front Together = start
-merges m first old before acts programs ts all_ts ds all_ds target debugger start t_runs d_runs t_front d_front (TargetFirst ts' none) =
-    target-ahead m first before [] (opened_target old.target) target (attached old.debugger) ts' t_front.0 refl start (subst (λ x. TargetRuns m (opened_target old.target) x target) t_front.1 t_runs) none
-merges m first old before acts programs ts all_ts ds all_ds target debugger start t_runs d_runs t_front d_front (DebuggerFirst ds' none) =
-    debugger-ahead m first before [] (opened_target old.target) (attached old.debugger) debugger ds' d_front.0 refl start (subst (λ x. DebuggerRuns m (attached old.debugger) x debugger) d_front.1 d_runs) none
-merges m first old before acts programs ts all_ts ds all_ds target debugger start t_runs d_runs t_front d_front (ByTarget ts' ds' acts' move now h agrees) =
-    let so = merges m first old before acts' now ts' all_ts ds' all_ds target debugger start t_runs d_runs (fewer ts' all_ts move t_front) d_front h in
-    let does = target-next m (opened_target old.target) target ts' all_ts move now.target t_runs t_front (stand old ts' ds' acts' now h).target in
-    behind m first now (both move.behind now.debugger) before acts' move.act so (does.1 now.debugger) agrees
-merges m first old before acts programs ts all_ts ds all_ds target debugger start t_runs d_runs t_front d_front (ByDebugger ts' ds' acts' move now h agrees) =
-    let so = merges m first old before acts' now ts' all_ts ds' all_ds target debugger start t_runs d_runs t_front (fewer ds' all_ds move d_front) h in
-    let does = debugger-next m (attached old.debugger) debugger ds' all_ds move now.debugger d_runs d_front (stand old ts' ds' acts' now h).debugger in
-    behind m first now (both now.target move.behind) before acts' move.act so (does.1 now.target) agrees
+merges m first old before acts programs ts all_ts ds all_ds target debugger start t_runs d_runs t_front d_front meets =
+    subst (λ x. Merged m first x programs) (append_assoc before (Connects ∷ []) acts)
+    (merges-behind m first old (before ++ Connects ∷ []) acts programs ts all_ts ds all_ds target debugger start t_runs d_runs t_front d_front meets)
 
 -- ---- the session began at one end alone
 

@@ -29,9 +29,9 @@ use Rattle.jdwp_debugger.specs.declared.heads.Head.TheVariants as head
 use Rattle.jdwp_debugger.specs.declared.order.Order.TheVariants.{One}
 use Rattle.jdwp_debugger.specs.declared.turning.Read.{Read}
 use Rattle.jdwp_link.specs.EventParts.{is_left}
-use Rattle.jdwp_link.specs.Laws.{Laws}
+use Rattle.jdwp_link.specs.Laws.{HoldsOfWorlds, Laws}
 use Rattle.jdwp_link.proofs.Unrefused.{IsUnrefused}
-use Rattle.jdwp_model.specs.World.{World}
+use Rattle.jdwp_model.specs.World.{World, opening}
 use Rattle.jdwp_across.specs.Acting.{both}
 use Rattle.jdwp_across.specs.Apart.{programs_apart}
 use Rattle.jdwp_across.specs.Headline.{MayStart}
@@ -137,11 +137,11 @@ handles-one x message (streams.Packet header body) used d r after mirror sound (
 more-one : (d : Debugger) (r : Read) (after : Debugger) (mirror : Mirror) → AreSound mirror.threads → turns.TurnsAt More d (Ok r) after → TurnsOne More d r after mirror
 more-one d r after mirror sound (told, is) = record { new = mirror; sound = sound; so = (told, ap (as_one mirror) is) }
 
-pub turns-one : {S : Type 0} (m : Meaning S) (settings : Settings) (w : Widths) (s : S) (acts : List Act) (old : Programs S) (mirror : Mirror) (r : Read) (after : Debugger) → Laws m → AreSound mirror.threads → Standing m settings w s acts (twin mirror old)
+pub turns-one : {S : Type 0} (m : Meaning S) (settings : Settings) (w : Widths) (first : World S) (acts : List Act) (old : Programs S) (mirror : Mirror) (r : Read) (after : Debugger) → Laws m → AreSound mirror.threads → Standing m settings w first acts (twin mirror old)
     → turns.TurnsAt (front_of old.debugger.end) old.debugger (Ok r) after → TurnsOne (front_of old.debugger.end) old.debugger r after mirror
-turns-one m settings w s acts old mirror r after laws sound b so =
+turns-one m settings w first acts old mirror r after laws sound b so =
     let d = old.debugger in
-    elim (has-front m settings w s acts (twin mirror old) laws b) [
+    elim (has-front m settings w first acts (twin mirror old) laws b) [
       | inl more ↦ subst (λ f. TurnsOne f d r after mirror) (sym more) (more-one d r after mirror sound (subst (λ f. turns.TurnsAt f d (Ok r) after) more so))
       | inr h ↦ subst (λ f. TurnsOne f d r after mirror) (sym h.front)
           (handles-one b.world h.packet.0 _ _ d r after mirror sound h.says h.unrefused (subst (λ f. turns.TurnsAt f d (Ok r) after) h.front so))
@@ -177,51 +177,51 @@ record LeadsOne {S : Type 0} (m : Meaning S) (act : Act) (old new : Programs S) 
   sound : AreSound after.threads
   does : Does m act (twin mirror old) (twin after new)
 
-leads-one : {S : Type 0} (m : Meaning S) (settings : Settings) (w : Widths) (s : S) (acts : List Act) (act : Act) (old new : Programs S) (mirror : Mirror) → Laws m → AreSound mirror.threads → Standing m settings w s acts (twin mirror old) → Does m act old new → LeadsOne m act old new mirror
-leads-one m settings w s acts Connects old new mirror laws sound b (shut, unheard, lives, is) = record { after = empty_mirror; sound = sound-none; does = (shut, unheard, lives, ap (twin empty_mirror) is) }
-leads-one m settings w s acts (ComesToTarget bytes) old new mirror laws sound b is = record { after = mirror; sound = sound; does = ap (twin mirror) is }
-leads-one m settings w s acts (LeavesTarget bytes) old new mirror laws sound b is = record { after = mirror; sound = sound; does = ap (twin mirror) is }
-leads-one m settings w s acts (TargetTurns turn) old new mirror laws sound b (so, encoded, sends, same) = record { after = mirror; sound = sound; does = (so, encoded, sends, ap (as_one mirror) same) }
-leads-one m settings w s acts (TargetReleases place turn) old new mirror laws sound b (so, encoded, sends, same) = record { after = mirror; sound = sound; does = (so, encoded, sends, ap (as_one mirror) same) }
-leads-one m settings w s acts (TargetSteps t stepped) old new mirror laws sound b (so, encoded, sends, same) = record { after = mirror; sound = sound; does = (so, encoded, sends, ap (as_one mirror) same) }
-leads-one m settings w s acts (TargetDefers deferring) old new mirror laws sound b is = record { after = mirror; sound = sound; does = ap (twin mirror) is }
-leads-one m settings w s acts TargetLoses old new mirror laws sound b is = record { after = mirror; sound = sound; does = ap (twin mirror) is }
-leads-one m settings w s acts (ComesToDebugger bytes) old new mirror laws sound b is = record { after = mirror; sound = sound; does = ap (twin mirror) is }
-leads-one m settings w s acts (LeavesDebugger bytes) old new mirror laws sound b is = record { after = mirror; sound = sound; does = ap (twin mirror) is }
-leads-one m settings w s acts (DebuggerAsks c ticket) old new mirror laws sound b (free, given, asked, same) = record {
+leads-one : {S : Type 0} (m : Meaning S) (settings : Settings) (w : Widths) (first : World S) (acts : List Act) (act : Act) (old new : Programs S) (mirror : Mirror) → Laws m → AreSound mirror.threads → Standing m settings w first acts (twin mirror old) → Does m act old new → LeadsOne m act old new mirror
+leads-one m settings w first acts Connects old new mirror laws sound b (shut, unheard, lives, is) = record { after = empty_mirror; sound = sound-none; does = (shut, unheard, lives, ap (twin empty_mirror) is) }
+leads-one m settings w first acts (ComesToTarget bytes) old new mirror laws sound b is = record { after = mirror; sound = sound; does = ap (twin mirror) is }
+leads-one m settings w first acts (LeavesTarget bytes) old new mirror laws sound b is = record { after = mirror; sound = sound; does = ap (twin mirror) is }
+leads-one m settings w first acts (TargetTurns turn) old new mirror laws sound b (so, encoded, sends, same) = record { after = mirror; sound = sound; does = (so, encoded, sends, ap (as_one mirror) same) }
+leads-one m settings w first acts (TargetReleases place turn) old new mirror laws sound b (so, encoded, sends, same) = record { after = mirror; sound = sound; does = (so, encoded, sends, ap (as_one mirror) same) }
+leads-one m settings w first acts (TargetSteps t stepped) old new mirror laws sound b (so, encoded, sends, same) = record { after = mirror; sound = sound; does = (so, encoded, sends, ap (as_one mirror) same) }
+leads-one m settings w first acts (TargetDefers deferring) old new mirror laws sound b is = record { after = mirror; sound = sound; does = ap (twin mirror) is }
+leads-one m settings w first acts TargetLoses old new mirror laws sound b is = record { after = mirror; sound = sound; does = ap (twin mirror) is }
+leads-one m settings w first acts (ComesToDebugger bytes) old new mirror laws sound b is = record { after = mirror; sound = sound; does = ap (twin mirror) is }
+leads-one m settings w first acts (LeavesDebugger bytes) old new mirror laws sound b is = record { after = mirror; sound = sound; does = ap (twin mirror) is }
+leads-one m settings w first acts (DebuggerAsks c ticket) old new mirror laws sound b (free, given, asked, same) = record {
   after = mirror;
   sound = sound;
   does = (refuses-one (is_open old.debugger.end) mirror old.debugger c free, given, asks-one mirror old.debugger new.debugger c asked, same);
 }
-leads-one m settings w s acts (DebuggerNumbers id) old new mirror laws sound b (small, is) = record { after = mirror; sound = sound; does = (small, ap (twin mirror) is) }
-leads-one m settings w s acts (DebuggerTurns r lost) old new mirror laws sound b (after, so, gone, is) =
-    let t = turns-one m settings w s acts old mirror r after laws sound b so in
+leads-one m settings w first acts (DebuggerNumbers id) old new mirror laws sound b (small, is) = record { after = mirror; sound = sound; does = (small, ap (twin mirror) is) }
+leads-one m settings w first acts (DebuggerTurns r lost) old new mirror laws sound b (after, so, gone, is) =
+    let t = turns-one m settings w first acts old mirror r after laws sound b so in
     let left = is_left after in
     record {
       after = unless left t.new;
       sound = sound-unless left t.new t.sound;
       does = (as_one t.new after, t.so, gone ∙ one-lost left t.new after, ap (twin (unless left t.new)) is ∙ ap (both old.target) (one-settled left t.new after));
     }
-leads-one m settings w s acts (DebuggerLoses lost) old new mirror laws sound b (gone, is) = record { after = empty_mirror; sound = sound-none; does = (gone, ap (twin empty_mirror) is) }
+leads-one m settings w first acts (DebuggerLoses lost) old new mirror laws sound b (gone, is) = record { after = empty_mirror; sound = sound-none; does = (gone, ap (twin empty_mirror) is) }
 
 -- ---- every merge
 
 -- the twins stand for a world
-pub record Stands {S : Type 0} (m : Meaning S) (settings : Settings) (w : Widths) (s : S) (acts : List Act) (v : Programs S) : Type 0 where
+pub record Stands {S : Type 0} (m : Meaning S) (settings : Settings) (w : Widths) (first : World S) (acts : List Act) (v : Programs S) : Type 0 where
   pub mirror : Mirror
   pub sound : AreSound mirror.threads
-  pub standing : Standing m settings w s acts (twin mirror v)
+  pub standing : Standing m settings w first acts (twin mirror v)
 
-pub first-stands : {S : Type 0} (m : Meaning S) (settings : Settings) (s : S) (id : ℕ) → MayStart m settings s id → Stands m settings (m.sizes s) s [] (programs_apart m settings s id)
-first-stands m settings s id may = record { mirror = empty_mirror; sound = sound-none; standing = opening-stands m settings s id may }
+pub first-stands : {S : Type 0} (m : Meaning S) → HoldsOfWorlds m → (settings : Settings) (s : S) (id : ℕ) → MayStart m settings s id → Stands m settings (m.sizes s) (opening m s) [] (programs_apart m settings s id)
+first-stands m worlds settings s id may = record { mirror = empty_mirror; sound = sound-none; standing = opening-stands m worlds settings s id may }
 
-pub stands-on : {S : Type 0} (m : Meaning S) (settings : Settings) (w : Widths) (s : S) (acts : List Act) (act : Act) (old new : Programs S) → Laws m → Stands m settings w s acts old → Does m act old new → Agrees new → Stands m settings w s (acts ++ act ∷ []) new
-stands-on m settings w s acts act old new laws h does agrees =
-    let l = leads-one m settings w s acts act old new h.mirror laws h.sound h.standing does in
+pub stands-on : {S : Type 0} (m : Meaning S) (settings : Settings) (w : Widths) (first : World S) (acts : List Act) (act : Act) (old new : Programs S) → Laws m → Stands m settings w first acts old → Does m act old new → Agrees new → Stands m settings w first (acts ++ act ∷ []) new
+stands-on m settings w first acts act old new laws h does agrees =
+    let l = leads-one m settings w first acts act old new h.mirror laws h.sound h.standing does in
     let agree : Agrees (twin l.after new) = record { to_target = agrees.to_target; to_debugger = agrees.to_debugger } in
-    let on = leads-on m settings w s acts act (twin h.mirror old) (twin l.after new) laws h.standing agree l.does in
+    let on = leads-on m settings w first acts act (twin h.mirror old) (twin l.after new) laws h.standing agree l.does in
     record {
       mirror = l.after;
       sound = l.sound;
-      standing = record { world = on.world; stands = on.stands; keeps = act-keeps m act (twin h.mirror old) (twin l.after new) l.does h.standing.keeps; agrees = agree };
+      standing = record { onward = h.standing.onward; world = on.world; stands = on.stands; keeps = act-keeps m act (twin h.mirror old) (twin l.after new) l.does h.standing.keeps; agrees = agree };
     }

@@ -41,27 +41,27 @@ pub record RefusesNothing {S : Type 0} (m : Meaning S) (programs : Programs S) :
   pub debugger : (fault : DebuggerFault) (after : Debugger) → reads.TurnsAt (front_of programs.debugger.end) programs.debugger (Err fault) after
       → (fault ≡ debugger_fault.NoMemory) × (after ≡ programs.debugger)
 
--- The two stand for a world of the model, and what is said of it holds of them: what the mirror shows is what the target had when it sent the
--- last packet read; a held thread is suspended now; counts from above; what was read of a suspended thread's frames stays true. Each ticket
--- that was given was answered or lost, or waits, and once; each answer that was told of a ticket is the one that the target gave to it when
--- it carried out its command. And neither end refuses what the other sent.
-pub record MayRelyOn {S : Type 0} (m : Meaning S) (settings : Settings) (s : S) (acts : List Act) (programs : Programs S) : Type 0 where
+-- The two stand for a world of the model, to which the events of the acts lead from the first one, and what is said of it holds of them: what the
+-- mirror shows is what the target had when it sent the last packet read; a held thread is suspended now; counts from above; what was read of a
+-- suspended thread's frames stays true. Each ticket that was given since was answered or lost, or waits, and once; each answer that was told of a
+-- ticket is the one that the target gave to it when it carried out its command. And neither end refuses what the other sent.
+pub record MayRelyOn {S : Type 0} (m : Meaning S) (settings : Settings) (first : World S) (acts : List Act) (programs : Programs S) : Type 0 where
   pub world : World S
-  pub stands : StandsAcross m settings (m.sizes s) s acts programs world
+  pub stands : StandsAcross m settings (m.sizes first.now.machine) first acts programs world
   pub mirror : MirrorsSeen (joined programs.target programs.debugger) world
   pub held : HoldsSuspended (joined programs.target programs.debugger)
   pub at_most : CountsAtMost (joined programs.target programs.debugger) world
   pub stays : StaysTrue m (joined programs.target programs.debugger) world
-  pub settles : (k : ℕ) → times k (settled_in (told_in acts) ++ waiting_at programs.debugger) ≡ times k (tickets_to programs.debugger.tickets)
+  pub settles : (k : ℕ) → times k (tickets_to first.asked ++ (settled_in (told_in acts) ++ waiting_at programs.debugger)) ≡ times k (tickets_to programs.debugger.tickets)
   pub tells : (p : ℕ × Answer) → IsIn (answers_in (told_in acts)) p
-      → IsIn (given_answers m settings (unmeasured (m.sizes s) settings.limits) (opening m s) (events_in acts)) p
+      → IsIn (given_answers m settings (unmeasured (m.sizes first.now.machine) settings.limits) first (events_in acts)) p
   pub reads : RefusesNothing m programs
 
 -- After every list of acts of a target and a debugger in two programs, between which bytes come in order.
 abbrev pub HoldsAcross : {S : Type 0} → Meaning S → Type 0
 HoldsAcross {S} m =
     (settings : Settings) (s : S) (id : ℕ) (acts : List Act) (programs : Programs S) →
-    MayStart m settings s id → Merged m (new_programs m settings s id) acts programs → MayRelyOn m settings s acts programs
+    MayStart m settings s id → Merged m (new_programs m settings s id) acts programs → MayRelyOn m settings (opening m s) acts programs
 
 -- ---- one thread
 

@@ -11,3 +11,5 @@ pub mod RunsHeadline
 pub mod OwnLimits
 pub mod OwnRuns
 pub mod WorkedLimits
+pub mod Others
+pub mod OtherRuns

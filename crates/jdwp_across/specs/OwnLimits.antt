@@ -20,6 +20,7 @@ use Rattle.jdwp_debugger.specs.DebuggerTurns as reads
 use Rattle.jdwp_debugger.specs.declared.faults.DebuggerFault.{DebuggerFault}
 use Rattle.jdwp_debugger.specs.declared.faults.DebuggerFault.TheVariants as debugger_fault
 use Rattle.jdwp_debugger.specs.declared.turning.Read.{Read}
+use Rattle.jdwp_model.specs.World.{World, opening}
 use Rattle.jdwp_across.specs.Headline.{MayRelyOn, MayStart, RefusesNothing}
 use Rattle.jdwp_across.specs.Merges.{Merged}
 use Rattle.jdwp_across.specs.Programs.{Act, DebuggerAsks, Programs, new_programs}
@@ -77,8 +78,8 @@ within settings limits programs = record {
 
 -- All that holds where both have the limits of the session holds of the two as they are, but that each has its own; neither refuses what the
 -- other sent; and so a thread that the debugger holds is suspended in the target now.
-pub record MayRelyOnWithin {S : Type 0} (m : Meaning S) (settings : Settings) (limits : Limits) (s : S) (acts : List Act) (programs : Programs S) : Type 0 where
-  pub relies : MayRelyOn m (settings_between settings limits) s acts (within settings limits programs)
+pub record MayRelyOnWithin {S : Type 0} (m : Meaning S) (settings : Settings) (limits : Limits) (first : World S) (acts : List Act) (programs : Programs S) : Type 0 where
+  pub relies : MayRelyOn m (settings_between settings limits) first acts (within settings limits programs)
   pub reads : RefusesNothing m programs
   pub suspends : (t : ℕ) → IsSuspendedIfHeld programs t
 
@@ -87,7 +88,7 @@ abbrev pub HoldsWithinOwnLimits : {S : Type 0} → Meaning S → Type 0
 HoldsWithinOwnLimits {S} m =
     (settings : Settings) (limits : Limits) (s : S) (id : ℕ) (acts : List Act) (programs : Programs S) →
     MayStartWithin m settings limits s id → AreTaken (m.sizes s) settings.limits limits acts → Merged m (programs_within m settings limits s id) acts programs →
-    MayRelyOnWithin m settings limits s acts programs
+    MayRelyOnWithin m settings limits (opening m s) acts programs
 
 -- ---- what is refused
 

@@ -9,6 +9,7 @@ use Rattle.jdwp_debuggee.specs.Settings.{Settings}
 use Rattle.jdwp_mirror.specs.KnownThreads.{is_held_in}
 use Rattle.jdwp_target.specs.Targets.{Target, opened_target}
 use Rattle.jdwp_debugger.specs.Debuggers.{Debugger, attached}
+use Rattle.jdwp_model.specs.World.{opening}
 use Rattle.jdwp_engine.specs.Sessions.{Serves}
 use Rattle.jdwp_attach.specs.declared.plans.plan_line.PlanLine.{PlanLine}
 use Rattle.jdwp_attach.specs.PlanRuns.{Attaches}
@@ -34,7 +35,7 @@ pub record MayConnectWithin {S : Type 0} (m : Meaning S) (settings : Settings) (
 pub record HoldsWhereverWithin {S : Type 0} (m : Meaning S) (settings : Settings) (limits : Limits) (s : S) (id : ℕ) (acts : List Act) (old : Programs S) (target : List (Move (Target S))) (debugger : List (Move Debugger)) : Type 0 where
   pub merges : (more : List Act) (programs : Programs S) → StandBehind old target debugger more programs → Merged m (programs_within m settings limits s id) (acts ++ Connects ∷ more) programs
   pub relies : (more : List Act) (programs : Programs S) → StandBehind old target debugger more programs → AreTaken (m.sizes s) settings.limits limits (acts ++ Connects ∷ more)
-      → MayRelyOnWithin m settings limits s (acts ++ Connects ∷ more) programs
+      → MayRelyOnWithin m settings limits (opening m s) (acts ++ Connects ∷ more) programs
   pub holds_nobody : (programs : Programs S) (t : ℕ) → StandsAhead old target debugger programs → is_held_in programs.debugger.mirror.threads t ≡ false
 
 -- So it is of each session of both, whatever loops over their calls run them.

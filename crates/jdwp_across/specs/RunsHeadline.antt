@@ -8,6 +8,7 @@ use Rattle.jdwp_mirror.specs.KnownThreads.{is_held_in}
 use Rattle.jdwp_target.specs.Targets.{Target, opened_target}
 use Rattle.jdwp_debugger.specs.Debuggers.{Debugger, attached, unanswered}
 use Rattle.jdwp_model.specs.Seen.{lowers}
+use Rattle.jdwp_model.specs.World.{opening}
 use Rattle.jdwp_link.specs.Clauses.{has_dispose, unanswered_by}
 use Rattle.jdwp_end.specs.declared.pipes.ended.Ended.{Ended}
 use Rattle.jdwp_end.specs.Story.{Story}
@@ -60,7 +61,7 @@ IsSuspendedIfHeld programs t =
 -- began at one end alone, nobody is held. A merge of acts leads there, so another session may begin there once both ends are closed.
 pub record HoldsWherever {S : Type 0} (m : Meaning S) (settings : Settings) (s : S) (id : ℕ) (acts : List Act) (old : Programs S) (target : List (Move (Target S))) (debugger : List (Move Debugger)) : Type 0 where
   pub merges : (more : List Act) (programs : Programs S) → StandBehind old target debugger more programs → Merged m (new_programs m settings s id) (acts ++ Connects ∷ more) programs
-  pub relies : (more : List Act) (programs : Programs S) → StandBehind old target debugger more programs → MayRelyOn m settings s (acts ++ Connects ∷ more) programs
+  pub relies : (more : List Act) (programs : Programs S) → StandBehind old target debugger more programs → MayRelyOn m settings (opening m s) (acts ++ Connects ∷ more) programs
   pub suspends : (more : List Act) (programs : Programs S) (t : ℕ) → StandBehind old target debugger more programs → IsSuspendedIfHeld programs t
   pub holds_nobody : (programs : Programs S) (t : ℕ) → StandsAhead old target debugger programs → is_held_in programs.debugger.mirror.threads t ≡ false
 

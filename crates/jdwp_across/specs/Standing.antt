@@ -8,10 +8,9 @@ use Rattle.jdwp_debuggee.specs.Settings.{Settings}
 use Rattle.jdwp_mirror.specs.Messages.{Call, Message}
 use Rattle.jdwp_target.specs.Targets.{Target}
 use Rattle.jdwp_debugger.specs.Debuggers.{Debugger}
-use Rattle.jdwp_model.specs.Headline.{MayBegin}
 use Rattle.jdwp_model.specs.Measures.{unfit}
 use Rattle.jdwp_model.specs.Next.{outcomes, run}
-use Rattle.jdwp_model.specs.World.{Measure, World, opening}
+use Rattle.jdwp_model.specs.World.{Measure, World}
 use Rattle.jdwp_link.specs.Links.{Link}
 use Rattle.jdwp_link.specs.Stands.{Parts}
 use Rattle.jdwp_link.specs.Told.{told_outcomes}
@@ -57,12 +56,11 @@ unmeasured w limits = record { call = λ (c : Call). 0; message = λ (x : Messag
 abbrev pub uncounted : {S : Type 0} → World S → World S
 uncounted x = record x { at_target = 0; at_debugger = 0 }
 
--- The events of the acts lead to this world from the machine's state, and what they tell is what the acts told.
-pub record IsReachedBy {S : Type 0} (m : Meaning S) (settings : Settings) (w : Widths) (s : S) (acts : List Act) (x : World S) : Type 0 where
-  pub begins : MayBegin m settings s
-  pub is : run m settings (unmeasured w settings.limits) (opening m s) (events_in acts) ≡ uncounted x
-  pub tells : told_in acts ≡ told_outcomes (outcomes m settings (unmeasured w settings.limits) (opening m s) (events_in acts))
+-- The events of the acts lead to this world from the first one, and what they tell is what the acts told.
+pub record IsReachedBy {S : Type 0} (m : Meaning S) (settings : Settings) (w : Widths) (first : World S) (acts : List Act) (x : World S) : Type 0 where
+  pub is : run m settings (unmeasured w settings.limits) first (events_in acts) ≡ uncounted x
+  pub tells : told_in acts ≡ told_outcomes (outcomes m settings (unmeasured w settings.limits) first (events_in acts))
 
-pub record StandsAcross {S : Type 0} (m : Meaning S) (settings : Settings) (w : Widths) (s : S) (acts : List Act) (programs : Programs S) (x : World S) : Type 0 where
-  pub reached : IsReachedBy m settings w s acts x
+pub record StandsAcross {S : Type 0} (m : Meaning S) (settings : Settings) (w : Widths) (first : World S) (acts : List Act) (programs : Programs S) (x : World S) : Type 0 where
+  pub reached : IsReachedBy m settings w first acts x
   pub parts : Parts m settings w (joined programs.target programs.debugger) x

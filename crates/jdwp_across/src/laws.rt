@@ -1,5 +1,6 @@
 //! Laws: each function says what holds, in its contract, and does nothing; to call it is to cite it.
 ghost use Rattle.jdwp_link.specs.Laws.{Laws};
+ghost use Rattle.jdwp_model.specs.Rests.{Rests};
 
 use jdwp_machine::Machine;
 
@@ -27,4 +28,16 @@ pub(crate) fn of_sessions<M: Machine>()
     jdwp_model::holds_only_suspended_threads::<M>();
     jdwp_model::counts_at_most::<M>();
     jdwp_model::frames_read_stay_true::<M>();
+}
+
+/// What the debuggee does at each command and step.
+pub(crate) fn of_debuggees<M: Machine>()
+    ensures { Rests M.meaning }
+{
+    jdwp_debuggee::laws::moves_counts_and_requests::<M>();
+    jdwp_debuggee::laws::changes_machine_at_exit_and_slots::<M>();
+    jdwp_debuggee::laws::answers_id_sizes::<M>();
+    jdwp_debuggee::laws::accepts_the_three_policies::<M>();
+    jdwp_debuggee::laws::reports_one_thread::<M>();
+    jdwp_debuggee::laws::steps_where_it_runs::<M>();
 }
