@@ -39,3 +39,4 @@ mod Resting
 mod Meeting
 mod MeetingWithin
 mod Sessions
+mod WorkedOthers

@@ -13,3 +13,4 @@ pub mod OwnRuns
 pub mod WorkedLimits
 pub mod Others
 pub mod OtherRuns
+pub mod WorkedOthers

@@ -21,4 +21,4 @@ pub use own_limits::{
     refuses_longer_packets,
 };
 pub use runs::{attaches_by_acts, holds_of_serve_and_attach, holds_of_two_runs, serves_by_acts};
-pub use worked::{merges_as_worked_out, own_limits_as_worked_out};
+pub use worked::{merges_as_worked_out, other_sessions_as_worked_out, own_limits_as_worked_out};

@@ -2,6 +2,7 @@
 ghost use Rattle.jdwp_across.specs.Headline.{MayStart};
 ghost use Rattle.jdwp_across.specs.Worked.{MergesAsWorked};
 ghost use Rattle.jdwp_across.specs.WorkedLimits.{StartsAsWorked};
+ghost use Rattle.jdwp_across.specs.WorkedOthers.{MeetsAsWorked};
 ghost use Rattle.jdwp_model.specs.WorkedMachine.{settings, small, small_opening};
 
 /// There are merges: of no acts, and of a session that begins at both ends; the target handles the debugger's handshake, which came in two
@@ -19,6 +20,14 @@ pub fn merges_as_worked_out()
 /// all that the target alone counts; a session begins at both; and what asks for breakpoints fits the target.
 pub fn own_limits_as_worked_out()
     ensures { StartsAsWorked }
+{
+    jdwp_model::worked_machine_is_lawful();
+}
+
+/// A target whose session with a debugger was lost, in which a breakpoint was asked for, may meet a new debugger: both handshakes come, and no
+/// VM_START; the ids of the target's requests go on.
+pub fn other_sessions_as_worked_out()
+    ensures { MeetsAsWorked }
 {
     jdwp_model::worked_machine_is_lawful();
 }
