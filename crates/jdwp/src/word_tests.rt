@@ -175,7 +175,7 @@ static HELP: [(&str, &str); 24] = [
     ),
     (
         "capture f --stream 0",
-        "error: |'--stream <N>'|Usage: jdwp capture ",
+        "error: invalid value '0' for '--stream <N>': 0 is not in 1..=2147483647",
     ),
     ("shows", "error: unrecognized subcommand 'shows'|Usage: "),
     ("show", "error: |<FILE>|Usage: "),
