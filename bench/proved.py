@@ -44,7 +44,8 @@ jdwp_across | holds_in_two_programs; merges_as_worked_out | The first three rows
 jdwp_across | suspends_what_is_held; suspends_what_is_held_apart | A thread that the debugger holds is suspended in the other program's target now, unless as above; with `Order::Apart`, while it lives, whatever is unanswered
 jdwp_across | holds_of_two_runs | The two rows above, whatever loops make the calls; a session may begin at one end first
 jdwp_across | holds_of_serve_and_attach; serves_by_acts; attaches_by_acts | The same of what `serve` and `attach` run, which is such calls
-jdwp_across | holds_within_own_limits; holds_of_two_runs_within; holds_of_serve_and_attach_within; own_limits_as_worked_out; refuses_longer_packets | The same of ends with limits of their own, where the target's packets may be no longer than the debugger's and it takes each command asked; what is longer an end refuses, as fault 2
+jdwp_across | holds_within_own_limits; holds_of_two_runs_within; holds_of_serve_and_attach_within; own_limits_as_worked_out; refuses_longer_packets | The same of ends with limits of their own, where the target's packets may be no longer than the debugger's and it takes each command asked; what is longer an end refuses (2)
+jdwp_across | holds_after_other_sessions; holds_within_after_others; holds_of_two_runs_after_others; holds_of_serve_and_attach_after_others; other_sessions_as_worked_out | The same where each had sessions with others before, whoever they were and whatever they sent; not of `Order::Apart`
 
 ## The model of both ends, for every lawful machine and any list of events
 
