@@ -3,3 +3,4 @@ pub mod Sets
 pub mod Maps
 pub mod Before
 pub mod Faults
+pub mod Again

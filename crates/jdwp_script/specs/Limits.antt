@@ -1,7 +1,7 @@
 -- When there is more of something than a script may have.
 use Rattle.std.specs.Prelude.{ℕ, ◌+◌, ◌-◌, ◌==◌, ◌||◌, List, [], ◌∷◌, length, Bool, false, not, nat_lt, Option, None, Some, filter}
 use Rattle.std.specs.List.{list_any, flat_map}
-use Rattle.jdwp_script.specs.Parts.{GroupPart, FieldPart, SlotPart, MethodPart, ClassPart, ElementsPart, ObjectPart, StepPart, Call, Go, Return, Throwing, Prepare, Start, ThreadPart, ModulePart, ScriptPart}
+use Rattle.jdwp_script.specs.Parts.{GroupPart, FieldPart, SlotPart, MethodPart, ClassPart, ElementsPart, ObjectPart, StepPart, Call, Go, Return, Throwing, Prepare, Start, Again, ThreadPart, ModulePart, ScriptPart}
 
 -- ---- words
 
@@ -39,6 +39,7 @@ started_by (Go n) = []
 started_by (Return v) = []
 started_by (Throwing t) = []
 started_by (Prepare n) = []
+started_by (Again k) = []
 
 -- the threads that steps start, each as often as a step starts it
 abbrev pub started : List ThreadPart → List ℕ
@@ -57,6 +58,7 @@ frames_after n (Go i) = n
 frames_after n (Throwing t) = n
 frames_after n (Prepare i) = n
 frames_after n (Start i) = n
+frames_after n (Again k) = n
 
 -- whether more frames than there may be are there at once, after so many
 abbrev pub is_deep : ℕ → List StepPart → Bool
@@ -93,6 +95,7 @@ step_passes (Return v) = false
 step_passes (Throwing t) = false
 step_passes (Prepare n) = false
 step_passes (Start n) = false
+step_passes (Again k) = false
 
 abbrev pub thread_passes : ThreadPart → Bool
 thread_passes t = is_long t.name || (over 65_536 t.steps || (list_any step_passes t.steps || is_deep 0 t.steps))

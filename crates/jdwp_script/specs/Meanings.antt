@@ -17,7 +17,7 @@ use Rattle.jdwp_script.specs.declared.script.Script.{Script}
 use Rattle.jdwp_script.specs.declared.step.Call.{Call}
 use Rattle.jdwp_script.specs.declared.step.Step.{Step}
 use Rattle.jdwp_script.specs.declared.step.Step.TheVariants as step
-use Rattle.jdwp_script.specs.Parts.{GroupPart, FieldPart, SlotPart, MethodPart, ClassPart, ElementsPart, ObjectPart, CallPart, StepPart, Go, Return, Throwing, Prepare, Start, ThreadPart, ModulePart, ScriptPart}
+use Rattle.jdwp_script.specs.Parts.{GroupPart, FieldPart, SlotPart, MethodPart, ClassPart, ElementsPart, ObjectPart, CallPart, StepPart, Go, Return, Throwing, Prepare, Start, Again, ThreadPart, ModulePart, ScriptPart}
 use Rattle.jdwp_script.specs.Parts as part
 
 abbrev pub widths : Sizes → Widths
@@ -54,6 +54,7 @@ step_part (step.Return v) = Return v
 step_part (step.Throw t) = Throwing t
 step_part (step.Prepare n) = Prepare n.0
 step_part (step.Start n) = Start n.0
+step_part (step.Again k) = Again k
 
 abbrev pub thread_part : Thread → ThreadPart
 thread_part t = record { id = t.id.0; name = string_bytes t.name; group = t.group.0; steps = map step_part t.steps.items }

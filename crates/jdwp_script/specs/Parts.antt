@@ -82,6 +82,7 @@ pub data StepPart : Type 0 where
   Throwing : Throw → StepPart
   Prepare : ℕ → StepPart
   Start : ℕ → StepPart
+  Again : ℕ → StepPart
 
 pub record ThreadPart : Type 0 where
   pub id : ℕ

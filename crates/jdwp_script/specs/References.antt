@@ -1,5 +1,5 @@
 -- When an id is 0 or unknown, or something stands where it may not.
-use Rattle.std.specs.Prelude.{ℕ, ◌-◌, ◌==◌, ◌&&◌, ◌||◌, List, [], ◌∷◌, ◌++◌, length, take, slice_get, Bool, false, true, not, nat_lt, nat_le, Option, None, Some, is_some, unwrap_or, if◌then◌else◌}
+use Rattle.std.specs.Prelude.{ℕ, ◌+◌, ◌-◌, ◌==◌, ◌&&◌, ◌||◌, List, [], ◌∷◌, ◌++◌, length, take, drop, slice_get, Bool, false, true, not, nat_lt, nat_le, Option, None, Some, is_some, unwrap_or, if◌then◌else◌}
 use Rattle.std.specs.List.{list_any, flat_map}
 use Rattle.std.specs.Ordering.{int_eq}
 use Rattle.jdwp_value.specs.Values.{is_object}
@@ -8,7 +8,7 @@ use Rattle.jdwp_script.specs.declared.script.FieldValue.{FieldValue}
 use Rattle.jdwp_script.specs.declared.step.Literal.{Literal}
 use Rattle.jdwp_script.specs.declared.step.Place.{Place}
 use Rattle.jdwp_script.specs.declared.step.SlotValue.{SlotValue}
-use Rattle.jdwp_script.specs.Parts.{GroupPart, FieldPart, MethodPart, ClassPart, ElementsPart, ObjectPart, CallPart, StepPart, Call, Go, Return, Throwing, Prepare, Start, ThreadPart, ModulePart, ScriptPart}
+use Rattle.jdwp_script.specs.Parts.{GroupPart, FieldPart, MethodPart, ClassPart, ElementsPart, ObjectPart, CallPart, StepPart, Call, Go, Return, Throwing, Prepare, Start, Again, ThreadPart, ModulePart, ScriptPart}
 use Rattle.jdwp_script.specs.Literals.{fits_tag}
 use Rattle.jdwp_script.specs.Limits.{if_there, is_in, started, living}
 use Rattle.jdwp_script.specs.Twice.{group_ids, object_ids, thread_ids, module_ids, class_ids, field_ids, is_twice}
@@ -147,6 +147,7 @@ step_lost k frames (Return v) = not (is_some (newest frames)) || literal_lost k 
 step_lost k frames (Throwing t) = not (is_some (newest frames)) || (not (k.object t.object.0) || if_there (place_lost k) t.caught)
 step_lost k frames (Prepare n) = not (k.class n)
 step_lost k frames (Start n) = not (k.thread n)
+step_lost k frames (Again n) = false
 
 -- the frames that a step leaves
 abbrev pub frames_left : Known → List ℕ → StepPart → List ℕ
@@ -156,13 +157,73 @@ frames_left k frames (Return v) = take (length frames - 1) frames
 frames_left k frames (Throwing t) = frames
 frames_left k frames (Prepare n) = frames
 frames_left k frames (Start n) = frames
+frames_left k frames (Again n) = frames
 
 abbrev pub steps_lost : Known → List ℕ → List StepPart → Bool
 steps_lost k frames [] = false
 steps_lost k frames (s ∷ ss) = step_lost k frames s || steps_lost k (frames_left k frames s) ss
 
+-- ---- going back
+
+abbrev pub goes_back : StepPart → Bool
+goes_back (Again k) = true
+goes_back (Call c) = false
+goes_back (Go n) = false
+goes_back (Return v) = false
+goes_back (Throwing t) = false
+goes_back (Prepare n) = false
+goes_back (Start n) = false
+
+-- a step that is made once at most: what has begun can't begin again
+abbrev pub is_once : StepPart → Bool
+is_once (Prepare n) = true
+is_once (Start n) = true
+is_once (Call c) = false
+is_once (Go n) = false
+is_once (Return v) = false
+is_once (Throwing t) = false
+is_once (Again k) = false
+
+-- Whether steps return each frame that they call and no other, where so many of those that they called are there. Then the frames behind
+-- them are those before them.
+abbrev pub returns_own : ℕ → List StepPart → Bool
+returns_own n [] = n == 0
+returns_own n (Call c ∷ ss) = returns_own (n + 1) ss
+returns_own n (Return v ∷ ss) = nat_lt 0 n && returns_own (n - 1) ss
+returns_own n (Go i ∷ ss) = returns_own n ss
+returns_own n (Throwing t ∷ ss) = returns_own n ss
+returns_own n (Prepare i ∷ ss) = returns_own n ss
+returns_own n (Start i ∷ ss) = returns_own n ss
+returns_own n (Again k ∷ ss) = returns_own n ss
+
+-- the last k of these steps
+abbrev pub last_steps : ℕ → List StepPart → List StepPart
+last_steps k steps = drop (length steps - k) steps
+
+-- an `again` that goes k steps back, behind these steps: over steps that are there, can be made again and leave the frames as they were
+abbrev pub again_lost : List StepPart → ℕ → Bool
+again_lost before k = (k == 0) || (nat_lt (length before) k || (list_any is_once (last_steps k before) || not (returns_own 0 (last_steps k before))))
+
+abbrev pub last_lost : List StepPart → Option StepPart → Bool
+last_lost before None = false
+last_lost before (Some (Again k)) = again_lost before k
+last_lost before (Some (Call c)) = false
+last_lost before (Some (Go n)) = false
+last_lost before (Some (Return v)) = false
+last_lost before (Some (Throwing t)) = false
+last_lost before (Some (Prepare n)) = false
+last_lost before (Some (Start n)) = false
+
+-- all but the last step
+abbrev pub before_last : List StepPart → List StepPart
+before_last steps = take (length steps - 1) steps
+
+-- an `again` that does not stand last, so that steps behind it are never made, or that may not go back so far
+abbrev pub loop_lost : List StepPart → Bool
+loop_lost steps = list_any goes_back (before_last steps) || last_lost (before_last steps) (slice_get steps (length steps - 1))
+
 abbrev pub thread_lost : Known → ThreadPart → Bool
-thread_lost k t = (t.id == 0) || (not (k.group t.group) || steps_lost k [] t.steps)
+thread_lost k t = (t.id == 0) || (not (k.group t.group) || (steps_lost k [] t.steps || loop_lost t.steps))
 
 -- ---- modules
 
@@ -178,6 +239,7 @@ prepared_by (Go n) = []
 prepared_by (Return v) = []
 prepared_by (Throwing t) = []
 prepared_by (Start n) = []
+prepared_by (Again k) = []
 
 -- the classes that steps prepare, each as often as a step prepares it
 abbrev pub prepared : List ThreadPart → List ℕ

@@ -19,7 +19,7 @@ use Rattle.jdwp_script.specs.declared.script.FieldValue.{FieldValue}
 use Rattle.jdwp_script.specs.declared.step.Literal.{Literal}
 use Rattle.jdwp_script.specs.declared.step.Place.{Place}
 use Rattle.jdwp_script.specs.declared.step.SlotValue.{SlotValue}
-use Rattle.jdwp_script.specs.Parts.{GroupPart, FieldPart, SlotPart, MethodPart, ClassPart, ElementsPart, ObjectPart, StepPart, Call, Go, Return, Throwing, Prepare, Start, ThreadPart, ModulePart, ScriptPart}
+use Rattle.jdwp_script.specs.Parts.{GroupPart, FieldPart, SlotPart, MethodPart, ClassPart, ElementsPart, ObjectPart, StepPart, Call, Go, Return, Throwing, Prepare, Start, Again, ThreadPart, ModulePart, ScriptPart}
 use Rattle.jdwp_script.specs.Reading.{Reader, ◌>>=◌, found, whole, small, int, text, or_null, list_of, entries, tuple, entry, second, member_of, member_or}
 
 -- ---- values
@@ -172,6 +172,10 @@ prepare_step m d = second whole m d >>= λ class. Ok (Prepare class)
 abbrev pub start_step : Reader StepPart
 start_step m d = second whole m d >>= λ thread. Ok (Start thread)
 
+-- ["again", back]
+abbrev pub again_step : Reader StepPart
+again_step m d = second small m d >>= λ back. Ok (Again back)
+
 -- the step of this word
 abbrev pub step_named : List ℕ → Reader StepPart
 step_named word m d =
@@ -181,7 +185,8 @@ step_named word m d =
     if bytes_eq word (codes "throw") then throw_step m d else (
     if bytes_eq word (codes "prepare") then prepare_step m d else (
     if bytes_eq word (codes "start") then start_step m d else (
-    Err (Missing m)))))))
+    if bytes_eq word (codes "again") then again_step m d else (
+    Err (Missing m))))))))
 
 abbrev pub step : Reader StepPart
 step m d = entries m d >>= λ ds. entry text m ds 0 >>= λ word. step_named word m d

@@ -8,7 +8,7 @@ use Rattle.jdwp_script.specs.declared.script.FieldValue.{FieldValue}
 use Rattle.jdwp_script.specs.declared.step.Literal.{Literal}
 use Rattle.jdwp_script.specs.declared.step.Place.{Place}
 use Rattle.jdwp_script.specs.declared.step.SlotValue.{SlotValue}
-use Rattle.jdwp_script.specs.Parts.{GroupPart, FieldPart, MethodPart, ClassPart, ElementsPart, ObjectPart, StepPart, Call, Go, Return, Throwing, Prepare, Start, ThreadPart, ModulePart, ScriptPart}
+use Rattle.jdwp_script.specs.Parts.{GroupPart, FieldPart, MethodPart, ClassPart, ElementsPart, ObjectPart, StepPart, Call, Go, Return, Throwing, Prepare, Start, Again, ThreadPart, ModulePart, ScriptPart}
 use Rattle.jdwp_script.specs.Limits.{if_there}
 
 -- a number does not fit so many bytes
@@ -52,6 +52,7 @@ step_wide w (Return v) = literal_wide w v
 step_wide w (Throwing t) = is_wide w.object t.object.0 || if_there (place_wide w) t.caught
 step_wide w (Prepare n) = is_wide w.reference n
 step_wide w (Start n) = is_wide w.object n
+step_wide w (Again k) = false
 
 abbrev pub thread_wide : Widths → ThreadPart → Bool
 thread_wide w t = is_wide w.object t.id || (is_wide w.object t.group || list_any (step_wide w) t.steps)

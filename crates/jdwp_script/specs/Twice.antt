@@ -2,7 +2,7 @@
 -- and frames are each of their own.
 use Rattle.std.specs.Prelude.{ℕ, ◌||◌, List, [], ◌∷◌, ◌++◌, Bool, false, map}
 use Rattle.std.specs.List.{flat_map}
-use Rattle.jdwp_script.specs.Parts.{GroupPart, ClassPart, ObjectPart, StepPart, Call, Go, Return, Throwing, Prepare, Start, ThreadPart, ModulePart, ScriptPart}
+use Rattle.jdwp_script.specs.Parts.{GroupPart, ClassPart, ObjectPart, StepPart, Call, Go, Return, Throwing, Prepare, Start, Again, ThreadPart, ModulePart, ScriptPart}
 use Rattle.jdwp_script.specs.Limits.{is_in}
 
 -- ---- the ids that a script gives away
@@ -39,6 +39,7 @@ frame_of (Return v) = []
 frame_of (Throwing t) = []
 frame_of (Prepare n) = []
 frame_of (Start n) = []
+frame_of (Again k) = []
 
 abbrev pub frame_ids : List ThreadPart → List ℕ
 frame_ids threads = flat_map (λ t. flat_map frame_of t.steps) threads

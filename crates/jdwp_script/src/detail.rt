@@ -141,6 +141,12 @@ pub enum Cause {
     NoFrame,
     /// A thread is started, or a class prepared, a second time.
     Again(IdKind, u64),
+    /// A step stands behind an `again`.
+    NeverMade,
+    /// An `again` goes so many steps back, and so many stand before it.
+    Back(u32, usize),
+    /// The steps that an `again` goes back over don't leave the frames as they were.
+    OtherFrames,
     /// No thread lives at the beginning.
     NobodyLives,
 }
@@ -165,6 +171,12 @@ impl fmt::Display for Cause {
             Cause::SlotTwice(slot) => write!(f, ": the slot {slot} stands twice"),
             Cause::NoFrame => write!(f, ": a step without a frame"),
             Cause::Again(kind, id) => write!(f, ": the {kind} {id} begins a second time"),
+            Cause::NeverMade => write!(f, ": a step behind an again is never made"),
+            Cause::Back(back, before) => write!(
+                f,
+                ": it goes back by {back} where {before} stand before it"
+            ),
+            Cause::OtherFrames => write!(f, ": it goes back to other frames"),
             Cause::NobodyLives => write!(f, ": no thread lives at the beginning"),
         }
     }

@@ -11,6 +11,7 @@ mod judge;
 mod known;
 mod limit_detail;
 mod limits;
+mod loops;
 mod member;
 mod missing_detail;
 mod parts;

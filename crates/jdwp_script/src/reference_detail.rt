@@ -5,6 +5,7 @@ use crate::id_detail::second_id;
 use crate::ids::{PreparedIds, StartedIds};
 use crate::judge::{Judge, first_bad};
 use crate::known::KnownIds;
+use crate::loops::{GoesBack, IsOnce, loop_lost};
 use crate::member::Member;
 use crate::references::{change_frames, field_twice, fits_tag, is_lost, step_lost};
 use crate::script::{Class, Elements, Field, FieldValue, Group, Method, Object, Script, Thread};
@@ -212,7 +213,7 @@ fn elements_cause(known: &KnownIds, elements: &Elements) -> Cause {
     Cause::Unsaid
 }
 
-/// The first thread of id 0, or with an unknown group or a step that may not stand where it does.
+/// The first thread of id 0, or with an unknown group, a step that may not stand where it does, or an `again` that may not.
 fn thread_detail(
     alloc: Global,
     known: &KnownIds,
@@ -230,6 +231,9 @@ fn thread_detail(
         }
         if let Some(found) = step_detail(alloc, known, &thread.steps, path)? {
             return Ok(Some(found));
+        }
+        if loop_lost(&thread.steps) {
+            return Ok(Some(loop_detail(&thread.steps, path)));
         }
     }
     Ok(None)
@@ -265,6 +269,47 @@ fn step_cause(known: &KnownIds, frames: &[u64], step: &Step) -> Cause {
         Step::Go(index) => Cause::Past(*index),
         Step::Return(value) => literal_cause(value),
         Step::Throw(throw) => throw_cause(known, throw),
+        Step::Again(_) => Cause::Unsaid,
+    }
+}
+
+/// What is bad of the first `again` of a thread, or of the step behind it.
+fn loop_detail(steps: &[Step], path: Path) -> Detail {
+    let place = first_bad(&GoesBack, steps).unwrap_or(0);
+    if place + 1 < steps.len() {
+        return Detail {
+            cause: Cause::NeverMade,
+            path: path.to(Member::Steps, place + 1),
+        };
+    }
+    let cause = match steps.last() {
+        Some(Step::Again(back)) => again_cause(&steps[..place], *back),
+        _ => Cause::Unsaid,
+    };
+    Detail {
+        cause,
+        path: path.to(Member::Steps, place),
+    }
+}
+
+/// What is bad of an `again` behind these steps that goes so many back.
+fn again_cause(before: &[Step], back: u32) -> Cause {
+    if back == 0 || before.len() < back as usize {
+        return Cause::Back(back, before.len());
+    }
+    let steps = &before[before.len() - back as usize..];
+    match first_bad(&IsOnce, steps) {
+        Some(place) => once_cause(&steps[place]),
+        None => Cause::OtherFrames,
+    }
+}
+
+/// What would begin a second time by this step.
+fn once_cause(step: &Step) -> Cause {
+    match step {
+        Step::Start(thread) => Cause::Again(IdKind::Thread, thread.0),
+        Step::Prepare(class) => Cause::Again(IdKind::Class, class.0),
+        _ => Cause::Unsaid,
     }
 }
 

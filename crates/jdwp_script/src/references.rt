@@ -17,6 +17,7 @@ use crate::ids::{PreparedIds, StartedIds};
 use crate::judge::Judge;
 use crate::known::KnownIds;
 use crate::limits::living;
+use crate::loops::loop_lost;
 use crate::script::{
     Class, Elements, Field, FieldValue, Group, Line, Method, Module, Object, Script, Thread,
 };
@@ -350,6 +351,7 @@ pub(crate) fn step_lost(known: &KnownIds, frames: &[u64], step: &Step) -> bool
         }
         Step::Prepare(class) => !known.classes.contains(&class.0),
         Step::Start(thread) => !known.threads.contains(&thread.0),
+        Step::Again(_) => false,
     }
 }
 
@@ -389,7 +391,7 @@ fn steps_lost(alloc: Global, known: &KnownIds, steps: &[Step]) -> Result<bool, N
     Ok(false)
 }
 
-/// Whether one of these threads has id 0, an unknown group, or a step that may not stand where it does.
+/// Whether one of these threads has id 0, an unknown group, a step that may not stand where it does, or an `again` that may not.
 fn threads_lost(alloc: Global, known: &KnownIds, threads: &[Thread]) -> Result<bool, NoMemory>
     ensures { IfOk result (λ lost. lost ≡ list_any (thread_lost (known_ids known.now))
         (map thread_part threads.now)) }
@@ -398,6 +400,7 @@ fn threads_lost(alloc: Global, known: &KnownIds, threads: &[Thread]) -> Result<b
         if thread.id.0 == 0
             || !known.groups.contains(&thread.group.0)
             || steps_lost(alloc, known, &thread.steps)?
+            || loop_lost(&thread.steps)
         {
             return Ok(true);
         }

@@ -19,6 +19,9 @@ pub enum Step {
     Prepare(ReferenceTypeId),
     /// Starts a thread, which does not live until then.
     Start(ObjectId),
+    /// Goes on as many steps before this one, which is the last. It is no step of its own: the thread has gone back once the step before it
+    /// is made.
+    Again(u32),
 }
 
 /// A frame as it begins.

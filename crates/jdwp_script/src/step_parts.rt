@@ -82,6 +82,7 @@ fn named(alloc: Global, word: &str, value: &Value, member: Member) -> Result<Ste
         "throw" => throw(alloc, value, member),
         "prepare" => prepare(alloc, value, member),
         "start" => start(alloc, value, member),
+        "again" => again(alloc, value, member),
         _ => Err(ScriptFault::Missing(member)),
     }
 }
@@ -137,6 +138,13 @@ fn start(alloc: Global, value: &Value, member: Member) -> Result<Step, ScriptFau
     ensures { Gives step_part result (scripts.start_step member (view value.now)) }
 {
     Ok(Step::Start(ObjectId(second(alloc, value, member)?)))
+}
+
+/// `["again", back]`
+fn again(alloc: Global, value: &Value, member: Member) -> Result<Step, ScriptFault>
+    ensures { Gives step_part result (scripts.again_step member (view value.now)) }
+{
+    Ok(Step::Again(second(alloc, value, member)?))
 }
 
 /// What stands behind the word, in a list of two.

@@ -215,7 +215,7 @@ impl Judge<Step> for TooWide {
                     || is_wide(call.this.0, self.sizes.object())
                     || self.has_bad(&call.slots)
             }
-            Step::Go(_) => false,
+            Step::Go(_) | Step::Again(_) => false,
             Step::Return(value) => self.is_bad(value),
             Step::Throw(throw) => {
                 if is_wide(throw.object.0, self.sizes.object()) {
