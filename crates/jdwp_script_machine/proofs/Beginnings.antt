@@ -1,10 +1,10 @@
 -- Proofs that where a script with no fault begins, each thread can make its steps, whatever is done to the machine from there.
-use Rattle.std.proofs.Common.{◌≡◌, ◌⊎◌, ℕ, zero, suc, ◌+◌, ◌≤◌, ◌==◌, ◌||◌, ◌&&◌, Bool, true, false, not, cond, if◌then◌else◌, List, [], ◌∷◌, ◌++◌, map, length, refl, sym, ◌∙◌, ap, subst, arith, Option, Some, None, inl, inr}
+use Rattle.std.proofs.Common.{◌≡◌, ◌⊎◌, ℕ, zero, suc, ◌+◌, ◌<◌, ◌≤◌, ◌==◌, ◌||◌, ◌&&◌, Bool, true, false, not, cond, if◌then◌else◌, List, [], ◌∷◌, ◌++◌, map, length, refl, sym, ◌∙◌, ap, subst, arith, Option, Some, None, inl, inr}
 use Rattle.std.proofs.lemmas.Bool.{eqb-true, eq-eqb, false≢true}
 use Rattle.std.specs.List.{list_any, flat_map, AllByRecursion, IsDistinct}
-use Rattle.jdwp_script.specs.Parts.{GroupPart, ClassPart, ObjectPart, StepPart, Call, Go, Return, Throwing, Prepare, Start, ThreadPart, ScriptPart}
+use Rattle.jdwp_script.specs.Parts.{GroupPart, ClassPart, ObjectPart, StepPart, Call, Go, Return, Throwing, Prepare, Start, Again, ThreadPart, ScriptPart}
 use Rattle.jdwp_script.specs.Limits.{over, is_long, is_in, started_by, started, group_passes, class_passes, object_passes, step_passes, is_deep, thread_passes, passes_limit}
-use Rattle.jdwp_script.specs.References.{nothing, Known, known_in, groups_lost, types_lost, class_lost, object_lost, step_lost, frames_left, steps_lost, thread_lost, module_lost, has_bad_reference}
+use Rattle.jdwp_script.specs.References.{nothing, Known, known_in, groups_lost, types_lost, class_lost, object_lost, step_lost, frames_left, steps_lost, loop_lost, thread_lost, module_lost, has_bad_reference}
 use Rattle.jdwp_script.specs.Twice.{shared_ids, class_ids, is_twice, has_id_twice}
 use Rattle.jdwp_script.specs.Faults.{first_fault}
 use Rattle.jdwp_value.specs.Rising.{rising}
@@ -15,9 +15,10 @@ use Rattle.jdwp_script_machine.specs.Sound.{IsSound, thread_ids}
 use Rattle.jdwp_script_machine.specs.StateLaws.{either, has_id}
 use Rattle.jdwp_script_machine.specs.OpeningLaws.{neither, none_passes, with_both, with_each, all_rising, distinct_all, distinct_rising, opening_sound}
 use Rattle.jdwp_script_machine.specs.SoundLaws.{all_found}
-use Rattle.jdwp_script_machine.specs.Runs.{Deed, after_all, MayAllBe, CanGoOn}
+use Rattle.jdwp_script_machine.specs.Runs.{Deed, after_all, MayAllBe, CanGoOn, goes_round, NeverRunsOut}
 use Rattle.jdwp_script_machine.proofs.CanSteps.{AreApart, any_map, not_false, CanMakeAll, can_make_all}
-use Rattle.jdwp_script_machine.proofs.Going.{steps_left, left, starts, starts_left, Goes, IsGoing, can_go_on}
+use Rattle.jdwp_script_machine.proofs.Going.{steps_left, left, starts_left, StandsIn, Goes, IsMade, IsGoing, can_go_on, never_runs_out}
+use Rattle.jdwp_script_machine.proofs.Loops.{starts, begins}
 use Rattle.jdwp_script_machine.proofs.GoingOn.{going_after_all}
 use Rattle.jdwp_script_machine.proofs.Openings.{total, total_rising, any_rising, starts_at_opening, faultless}
 
@@ -60,6 +61,7 @@ starts_times n (Go i ∷ steps) = let rest = starts_times n steps in omega arith
 starts_times n (Return v ∷ steps) = let rest = starts_times n steps in omega arith
 starts_times n (Throwing x ∷ steps) = let rest = starts_times n steps in omega arith
 starts_times n (Prepare c ∷ steps) = let rest = starts_times n steps in omega arith
+starts_times n (Again k ∷ steps) = let rest = starts_times n steps in omega arith
 
 -- how many steps of these threads start a thread
 abbrev starts_of : ℕ → List ThreadPart → ℕ
@@ -90,9 +92,16 @@ ids_at_opening : (script : ScriptPart) (ts : List ThreadPart) → thread_ids (ma
 ids_at_opening script [] = refl
 ids_at_opening script (t ∷ ts) = ap (λ ns. t.id ∷ ns) (ids_at_opening script ts)
 
-goes_at_opening : (script : ScriptPart) (ts : List ThreadPart) → AllByRecursion (FindsItself script) ts → AllByRecursion (λ (t : ThreadPart). CanMakeAll script 0 t.steps) ts → AllByRecursion (Goes script) (map (opening_thread script) ts)
-goes_at_opening script [] finds can = tt
-goes_at_opening script (t ∷ ts) finds can = (inr (rw finds.0 can.0, tt), goes_at_opening script ts finds.1 can.1)
+some_round : (steps : List StepPart) → goes_round steps ≡ true → 0 < length steps
+some_round [] h = absurd (false≢true h)
+some_round (step ∷ steps) h = omega arith
+
+stands_first : (t : ThreadPart) → loop_lost t.steps ≡ false → StandsIn t 0 0
+stands_first t h = record { frames = refl; onward = begins t.steps h; within = some_round t.steps }
+
+goes_at_opening : (script : ScriptPart) (ts : List ThreadPart) → AllByRecursion (FindsItself script) ts → AllByRecursion (IsMade script) ts → AllByRecursion (Goes script) (map (opening_thread script) ts)
+goes_at_opening script [] finds made = tt
+goes_at_opening script (t ∷ ts) finds made = (inr (rw finds.0 (stands_first t made.0.back), tt), goes_at_opening script ts finds.1 made.1)
 
 starts_left_at_opening : (script : ScriptPart) (n : ℕ) (ts : List ThreadPart) → AllByRecursion (FindsItself script) ts → starts_left script n (map (opening_thread script) ts) ≡ starts_of n ts
 starts_left_at_opening script n [] finds = refl
@@ -131,12 +140,19 @@ starts_known k n frames (Go i ∷ steps) lost h = starts_known k n frames steps 
 starts_known k n frames (Return v ∷ steps) lost h = starts_known k n (frames_left k frames (Return v)) steps (neither (step_lost k frames (Return v)) _ lost).1 (omega arith)
 starts_known k n frames (Throwing x ∷ steps) lost h = starts_known k n frames steps (neither (step_lost k frames (Throwing x)) _ lost).1 (omega arith)
 starts_known k n frames (Prepare c ∷ steps) lost h = starts_known k n frames steps (neither (step_lost k frames (Prepare c)) _ lost).1 (omega arith)
+starts_known k n frames (Again i ∷ steps) lost h = starts_known k n frames steps lost (omega arith)
 
 kept_steps : (k : Known) (t : ThreadPart) → thread_lost k t ≡ false → steps_lost k [] t.steps ≡ false
 kept_steps k t h =
     let id = neither (t.id == 0) _ h in
     let group = neither (not (k.group t.group)) _ id.1 in
-    group.1
+    (neither (steps_lost k [] t.steps) _ group.1).0
+
+kept_back : (k : Known) (t : ThreadPart) → thread_lost k t ≡ false → loop_lost t.steps ≡ false
+kept_back k t h =
+    let id = neither (t.id == 0) _ h in
+    let group = neither (not (k.group t.group)) _ id.1 in
+    (neither (steps_lost k [] t.steps) _ group.1).1
 
 none_or_some : (n : ℕ) → (n ≡ 0) ⊎ (1 ≤ n)
 none_or_some zero = inl refl
@@ -159,6 +175,7 @@ record IsFaultless (s : ScriptPart) : Type 0 where
   pub classes : AreApart s
   pub threads : IsDistinct (λ (a b : ℕ). a == b) (map (λ (t : ThreadPart). t.id) (arranged s).threads)
   pub kept : AllByRecursion (λ (t : ThreadPart). steps_lost (known_in s) [] t.steps ≡ false) s.threads
+  pub back : AllByRecursion (λ (t : ThreadPart). loop_lost t.steps ≡ false) s.threads
   pub few : AllByRecursion (λ (t : ThreadPart). is_deep 0 t.steps ≡ false) s.threads
   pub once : is_twice (started s.threads) ≡ false
 
@@ -205,6 +222,7 @@ faultless_is live s h =
       classes = classes_apart s none.1;
       threads = rw (← ids_at_opening (arranged s) (arranged s).threads) (opening_sound live s none.0 none.1 none.2).distinct;
       kept = with_each (λ (t : ThreadPart). thread_lost (known_in s) t ≡ false) (λ (t : ThreadPart). steps_lost (known_in s) [] t.steps ≡ false) (kept_steps (known_in s)) s.threads (none_passes (thread_lost (known_in s)) s.threads threads.0);
+      back = with_each (λ (t : ThreadPart). thread_lost (known_in s) t ≡ false) (λ (t : ThreadPart). loop_lost t.steps ≡ false) (kept_back (known_in s)) s.threads (none_passes (thread_lost (known_in s)) s.threads threads.0);
       few = with_each (λ (t : ThreadPart). thread_passes t ≡ false) (λ (t : ThreadPart). is_deep 0 t.steps ≡ false) few_frames s.threads (none_passes thread_passes s.threads (threads_within live s none.0));
       once = once.0;
     }
@@ -216,10 +234,14 @@ going_at_opening s is =
     let finds : AllByRecursion (FindsItself script) script.threads = found_self key script.threads is.threads in
     let can = all_rising key (λ (t : ThreadPart). CanMakeAll script 0 t.steps) s.threads
     (with_both (λ (t : ThreadPart). steps_lost (known_in s) [] t.steps ≡ false) (λ (t : ThreadPart). is_deep 0 t.steps ≡ false) (λ (t : ThreadPart). CanMakeAll script 0 t.steps) (λ t lost deep. can_make_all s is.classes [] t.steps lost deep) s.threads is.kept is.few) in
+    let back = all_rising key (λ (t : ThreadPart). loop_lost t.steps ≡ false) s.threads is.back in
+    let made : AllByRecursion (IsMade script) script.threads =
+    with_both (λ (t : ThreadPart). CanMakeAll script 0 t.steps) (λ (t : ThreadPart). loop_lost t.steps ≡ false) (IsMade script) (λ t c b. record { can = c; back = b }) script.threads can back in
     let same = λ (n : ℕ). starts_left_at_opening script n script.threads finds ∙ total_rising key (λ (t : ThreadPart). starts n t.steps) s.threads in
     record {
+      made = made;
       distinct = rw (ids_at_opening script script.threads) is.threads;
-      each = goes_at_opening script script.threads finds can;
+      each = goes_at_opening script script.threads finds made;
       once = λ n. let count = same n ∙ all_times n s.threads in let few = once_in n (started s.threads) is.once in omega arith;
       waits = λ n h.
           let some : 1 ≤ starts_of n s.threads = let count = same n in omega arith in
@@ -233,3 +255,7 @@ going_at_opening s is =
 -- whatever is done from where a script with no fault begins, a thread that lives has run out only where it has used up its steps
 pub goes_on : (live : ℕ) (s : ScriptPart) (ds : List Deed) → first_fault live s ≡ None → MayAllBe (opening s) ds → CanGoOn (after_all (opening s) ds)
 goes_on live s ds none may = can_go_on (after_all (opening s) ds) (going_after_all (opening s) (going_at_opening s (faultless_is live s none)) ds may)
+
+-- and one that goes round has not run out
+pub goes_on_for_ever : (live : ℕ) (s : ScriptPart) (ds : List Deed) → first_fault live s ≡ None → MayAllBe (opening s) ds → NeverRunsOut (after_all (opening s) ds)
+goes_on_for_ever live s ds none may = never_runs_out (after_all (opening s) ds) (going_after_all (opening s) (going_at_opening s (faultless_is live s none)) ds may)

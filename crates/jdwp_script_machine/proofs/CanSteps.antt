@@ -5,7 +5,7 @@ use Rattle.std.proofs.lemmas.Bool.{ltb-false, eqb-true, eq-eqb, false≢true}
 use Rattle.std.proofs.lemmas.List.{length-append, length-take-le}
 use Rattle.std.specs.List.{list_any, AllByRecursion, IsDistinct}
 use Rattle.jdwp_value.specs.Values.{is_object}
-use Rattle.jdwp_script.specs.Parts.{MethodPart, ClassPart, ObjectPart, CallPart, StepPart, Call, Go, Return, Throwing, Prepare, Start, ThreadPart, ScriptPart}
+use Rattle.jdwp_script.specs.Parts.{MethodPart, ClassPart, ObjectPart, CallPart, StepPart, Call, Go, Return, Throwing, Prepare, Start, Again, ThreadPart, ScriptPart}
 use Rattle.jdwp_script.specs.Limits.{if_there, is_in, frames_after, is_deep}
 use Rattle.jdwp_script.specs.References.{Lasts, with_method, with_methods, with_classes, no_methods, Known, known_in, is_lost, literal_lost, newest, is_past, slot_value_lost, slot_twice, place_lost, step_lost, frames_left, steps_lost}
 use Rattle.jdwp_script.specs.Twice.{object_ids, class_ids, thread_ids}
@@ -136,7 +136,7 @@ site_known s apart class method h =
 
 -- ---- steps that can be made
 
--- whether a thread with so many frames can make a step, but for whom it starts
+-- whether a thread with so many frames can make a step, but for whom it starts; an `again` is none that is made
 abbrev pub CanMake : ScriptPart → ℕ → StepPart → Type 0
 CanMake script n (Call c) = (n < 256) × (is_some (site_in script c.class c.method) ≡ true)
 CanMake script n (Go i) = 1 ≤ n
@@ -144,6 +144,7 @@ CanMake script n (Return v) = 1 ≤ n
 CanMake script n (Throwing x) = (1 ≤ n) × (is_some (object_in script x.object.0) ≡ true)
 CanMake script n (Prepare c) = is_some (class_in script c) ≡ true
 CanMake script n (Start t) = Unit {0}
+CanMake script n (Again k) = Unit {0}
 
 -- and all of these, one after the other
 abbrev pub CanMakeAll : ScriptPart → ℕ → List StepPart → Type 0
@@ -177,6 +178,7 @@ can_make s apart frames (Throwing x) lost deep =
     (some_newest frames (not_false _ frame.0), object_there s x.object.0 ∙ not_false _ object.0)
 can_make s apart frames (Prepare c) lost deep = class_there s c ∙ not_false _ lost
 can_make s apart frames (Start t) lost deep = tt
+can_make s apart frames (Again k) lost deep = tt
 
 left_length : (k : Known) (frames : List ℕ) (step : StepPart) → length (frames_left k frames step) ≡ frames_after (length frames) step
 left_length k frames (Call c) = length-append frames (unwrap_or (k.last c.class c.method) 0 ∷ [])
@@ -185,6 +187,7 @@ left_length k frames (Return v) = length-take-le (length frames - 1) frames (ome
 left_length k frames (Throwing x) = refl
 left_length k frames (Prepare c) = refl
 left_length k frames (Start t) = refl
+left_length k frames (Again i) = refl
 
 pub can_make_all : (s : ScriptPart) → AreApart s → (frames : List ℕ) (steps : List StepPart) → steps_lost (known_in s) frames steps ≡ false → is_deep (length frames) steps ≡ false → CanMakeAll (arranged s) (length frames) steps
 can_make_all s apart frames [] lost deep = tt

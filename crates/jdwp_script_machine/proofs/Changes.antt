@@ -3,10 +3,10 @@ use Rattle.std.proofs.Common.{◌≡◌, ℕ, zero, suc, ◌+◌, ◌<◌, ◌==
 use Rattle.std.proofs.lemmas.Bool.{eq-eqb}
 use Rattle.std.proofs.lemmas.List.{map-append, take_more}
 use Rattle.std.specs.List.{IsDistinct}
-use Rattle.jdwp_script.specs.Parts.{StepPart, Call, Go, Return, Throwing, Prepare, Start}
+use Rattle.jdwp_script.specs.Parts.{StepPart, Call, Go, Return, Throwing, Prepare, Start, Again}
 use Rattle.jdwp_script_machine.specs.LookUps.{changed, first_changed}
 use Rattle.jdwp_script_machine.specs.States.{ThreadNow, ClassNow, State, thread_at}
-use Rattle.jdwp_script_machine.specs.Steps.{after_step, alive, with_started, with_prepared, next_step, stepped}
+use Rattle.jdwp_script_machine.specs.Steps.{after_step, alive, with_started, with_prepared, next_step, place_after, stepped}
 use Rattle.jdwp_script_machine.specs.Sound.{thread_ids}
 use Rattle.jdwp_script_machine.specs.StateLaws.{either}
 use Rattle.jdwp_script_machine.specs.SoundLaws.{unchanged}
@@ -42,21 +42,22 @@ changes_swap key f g kf kg swap n t [] = refl
 changes_swap key f g kf kg swap n t (x ∷ xs) = cc (swapped key f g kf kg swap n t x (key x == n) (key x == t) refl refl, changes_swap key f g kf kg swap n t xs)
 
 -- A thread that makes a step may start another one after it, too.
-pub made_then_started : (step : StepPart) (t : ℕ) (es : List ThreadNow) → IsDistinct (λ (a b : ℕ). a == b) (thread_ids es)
-    → with_started step (first_changed (λ (e : ThreadNow). e.id) t (after_step step) es) ≡ changed (λ (e : ThreadNow). e.id) t (after_step step) (with_started step es)
-made_then_started (Start n) t es distinct =
-    ap (λ xs. changed (λ (e : ThreadNow). e.id) n alive xs) (first_is_all (λ (e : ThreadNow). e.id) t (after_step (Start n)) es distinct)
-    ∙ changes_swap (λ (e : ThreadNow). e.id) alive (after_step (Start n)) (λ e. refl) (λ e. refl) (λ e. refl) n t es
-made_then_started (Call c) t es distinct = first_is_all (λ (e : ThreadNow). e.id) t (after_step (Call c)) es distinct
-made_then_started (Go i) t es distinct = first_is_all (λ (e : ThreadNow). e.id) t (after_step (Go i)) es distinct
-made_then_started (Return v) t es distinct = first_is_all (λ (e : ThreadNow). e.id) t (after_step (Return v)) es distinct
-made_then_started (Throwing x) t es distinct = first_is_all (λ (e : ThreadNow). e.id) t (after_step (Throwing x)) es distinct
-made_then_started (Prepare c) t es distinct = first_is_all (λ (e : ThreadNow). e.id) t (after_step (Prepare c)) es distinct
+pub made_then_started : (place : ℕ) (step : StepPart) (t : ℕ) (es : List ThreadNow) → IsDistinct (λ (a b : ℕ). a == b) (thread_ids es)
+    → with_started step (first_changed (λ (e : ThreadNow). e.id) t (after_step place step) es) ≡ changed (λ (e : ThreadNow). e.id) t (after_step place step) (with_started step es)
+made_then_started place (Start n) t es distinct =
+    ap (λ xs. changed (λ (e : ThreadNow). e.id) n alive xs) (first_is_all (λ (e : ThreadNow). e.id) t (after_step place (Start n)) es distinct)
+    ∙ changes_swap (λ (e : ThreadNow). e.id) alive (after_step place (Start n)) (λ e. refl) (λ e. refl) (λ e. refl) n t es
+made_then_started place (Call c) t es distinct = first_is_all (λ (e : ThreadNow). e.id) t (after_step place (Call c)) es distinct
+made_then_started place (Go i) t es distinct = first_is_all (λ (e : ThreadNow). e.id) t (after_step place (Go i)) es distinct
+made_then_started place (Return v) t es distinct = first_is_all (λ (e : ThreadNow). e.id) t (after_step place (Return v)) es distinct
+made_then_started place (Throwing x) t es distinct = first_is_all (λ (e : ThreadNow). e.id) t (after_step place (Throwing x)) es distinct
+made_then_started place (Prepare c) t es distinct = first_is_all (λ (e : ThreadNow). e.id) t (after_step place (Prepare c)) es distinct
+made_then_started place (Again k) t es distinct = first_is_all (λ (e : ThreadNow). e.id) t (after_step place (Again k)) es distinct
 
-pub stepped_is : (s : State) (t : ℕ) (e : ThreadNow) (step : StepPart) (threads : List ThreadNow) (classes : List ClassNow) → Some e ≡ thread_at s t → Some step ≡ next_step s.script e
-    → threads ≡ changed (λ (e : ThreadNow). e.id) t (after_step step) (with_started step s.threads) → classes ≡ with_prepared step s.classes
+pub stepped_is : (s : State) (t place : ℕ) (e : ThreadNow) (step : StepPart) (threads : List ThreadNow) (classes : List ClassNow) → Some e ≡ thread_at s t → Some step ≡ next_step s.script e → place ≡ place_after s.script e
+    → threads ≡ changed (λ (e : ThreadNow). e.id) t (after_step place step) (with_started step s.threads) → classes ≡ with_prepared step s.classes
     → record { script = s.script; threads = threads; classes = classes } ≡ stepped s t
-stepped_is s t e step threads classes found next p q = rw (← found, ← next, p, q) refl
+stepped_is s t place e step threads classes found next on p q = rw (← found, ← next, p, q, on) refl
 
 -- ---- what is written at a place
 

@@ -8,21 +8,23 @@ use Rattle.jdwp_value.specs.declared.value.Value.{Value}
 use Rattle.jdwp_event.specs.Occurrences.{runs_out}
 use Rattle.jdwp_machine.specs.Meanings.{has}
 use Rattle.jdwp_script.specs.Limits as limits
-use Rattle.jdwp_script.specs.Parts.{StepPart, Call, Go, Return, Throwing, Prepare, Start, ThreadPart, ScriptPart}
+use Rattle.jdwp_script.specs.References.{loop_lost}
+use Rattle.jdwp_script.specs.Parts.{StepPart, Call, Go, Return, Throwing, Prepare, Start, Again, ThreadPart, ScriptPart}
 use Rattle.jdwp_script_machine.specs.LookUps.{with_id, changed}
 use Rattle.jdwp_script_machine.specs.States.{FrameNow, Life, Waits, Lives, HasEnded, ThreadNow, State, has_begun, living, begun, may_begin, thread_at, starts_thread}
 use Rattle.jdwp_script_machine.specs.Sites.{thread_in}
-use Rattle.jdwp_script_machine.specs.Steps.{next_step, moved, frames_after, happening_of, next, after_step, alive, with_started, stepped_by, stepped_of, stepped, gone, ended}
+use Rattle.jdwp_script_machine.specs.Steps.{next_step, place_after, moved, frames_after, happening_of, next, after_step, alive, with_started, stepped_by, stepped_of, stepped, gone, ended}
 use Rattle.jdwp_script_machine.specs.SlotWrites.{frame_written, thread_written, write_refusal, written_by, written}
 use Rattle.jdwp_script_machine.specs.Sound.{thread_ids}
 use Rattle.jdwp_script_machine.specs.StateLaws.{either, has_id, with_change, has_living, living_begun, change_into, change_within, ids_kept, found_other}
 use Rattle.jdwp_script_machine.specs.LiveLaws.{begun_ended}
-use Rattle.jdwp_script_machine.specs.SoundLaws.{all_changed, all_changed_found, started_ids}
+use Rattle.jdwp_script_machine.specs.SoundLaws.{unchanged, all_changed, all_changed_found, started_ids}
 use Rattle.jdwp_script_machine.specs.FrameLaws.{found_changed}
 use Rattle.jdwp_script_machine.specs.OpeningLaws.{neither}
 use Rattle.jdwp_script_machine.specs.Runs.{Deed, Steps, Ends, Writes, after, MayBe, after_all, MayAllBe}
 use Rattle.jdwp_script_machine.proofs.CanSteps.{CanMake, CanMakeAll}
-use Rattle.jdwp_script_machine.proofs.Going.{steps_left, left, starts, starts_left, IsPlaced, Goes, IsGoing, next_left, can_do, begins_next}
+use Rattle.jdwp_script_machine.proofs.Going.{steps_left, left, starts_left, IsPlaced, StandsAt, Goes, IsMade, IsGoing, next_left, can_make_at, stands_after, starts_after, made_of, stands, begins_next}
+use Rattle.jdwp_script_machine.proofs.Loops.{starts}
 use Rattle.jdwp_script_machine.proofs.Openings.{total}
 
 -- ---- how much threads count after a change
@@ -34,24 +36,16 @@ total_same count change same (e ∷ es) n =
     let here = same e in
     elim (e.id == n) as (λ (b : Bool). count (if b then change e else e) + total count (with_change n change es) ≡ count e + total count es) [ true ↦ omega arith | false ↦ omega arith ]
 
-total_less : (count : ThreadNow → ℕ) (change : ThreadNow → ThreadNow) → ((e : ThreadNow) → count (change e) ≤ count e) → (es : List ThreadNow) (n : ℕ) → total count (with_change n change es) ≤ total count es
-total_less count change less [] n = omega arith
-total_less count change less (e ∷ es) n =
-    let rest = total_less count change less es n in
-    let here = less e in
-    elim (e.id == n) as (λ (b : Bool). count (if b then change e else e) + total count (with_change n change es) ≤ count e + total count es) [ true ↦ omega arith | false ↦ omega arith ]
-
--- less by one where that which is found is
-total_one_less : (count : ThreadNow → ℕ) (change : ThreadNow → ThreadNow) → ((e : ThreadNow) → count (change e) ≤ count e) → (es : List ThreadNow) (n : ℕ) (x : ThreadNow) → with_id (λ (e : ThreadNow). e.id) n es ≡ Some x → count (change x) + 1 ≤ count x
-    → total count (with_change n change es) + 1 ≤ total count es
-total_one_less count change less [] n x found one = absurd cc
-total_one_less count change less (e ∷ es) n x found one = elim (either (e.id == n)) [
+-- by as much as the one that is found
+total_found : (count : ThreadNow → ℕ) (change : ThreadNow → ThreadNow) (es : List ThreadNow) (n : ℕ) (x : ThreadNow) → IsDistinct (λ (a b : ℕ). a == b) (thread_ids es) → with_id (λ (e : ThreadNow). e.id) n es ≡ Some x
+    → total count (with_change n change es) + count x ≡ total count es + count (change x)
+unfolding IsDistinct
+total_found count change [] n x distinct found = absurd cc
+total_found count change (e ∷ es) n x distinct found = elim (either (e.id == n)) [
   | inl k ↦ let is : Some e ≡ Some x = rw k at found in
       let same : e ≡ x = cc in
-      let here : count (change e) + 1 ≤ count e = rw same one in
-      let rest = total_less count change less es n in
-      rw k (omega arith)
-  | inr k ↦ let rest = total_one_less count change less es n x (rw k at found) one in rw k (omega arith)
+      rw (k, unchanged (λ (e : ThreadNow). e.id) change e.id n k es distinct.0, same) (omega arith)
+  | inr k ↦ let rest = total_found count change es n x distinct.1 (rw k at found) in rw k (omega arith)
 ]
 
 -- ---- who may begin after a change
@@ -71,6 +65,7 @@ begins_kept es fs n h k begins = rw (h, k) begins
 going_ended : (script : ScriptPart) (es : List ThreadNow) → IsGoing script es → (t : ℕ) → begun es t ≡ true → IsGoing script (with_change t gone es)
 going_ended script es going t lived =
     record {
+      made = going.made;
       distinct = rw (ids_kept gone (λ e. refl) es t) going.distinct;
       each = all_changed (λ (e : ThreadNow). e.id) (Goes script) gone (λ e h. inl refl) es t going.each;
       once = λ n. let same = total_same (λ (e : ThreadNow). starts n (left script e)) gone (λ e. refl) es t in let once = going.once n in omega arith;
@@ -83,13 +78,14 @@ going_ended script es going t lived =
 goes_written : (script : ScriptPart) (f : ℕ) (values : List (ℤ × Value)) (e : ThreadNow) → Goes script e → Goes script (thread_written f values e)
 goes_written script f values e h = elim h [
   | inl k ↦ inl k
-  | inr k ↦ let P : ℕ → Type 0 = λ n. CanMakeAll script n (left script e) in
+  | inr k ↦ let P : ℕ → Type 0 = λ n. StandsAt (thread_in script e.id) e.place n in
       inr (subst P (sym (length-map e.frames (λ (x : FrameNow). if x.id == f then frame_written values x else x))) k.0, all_changed (λ (x : FrameNow). x.id) (IsPlaced script) (frame_written values) (λ x p. p) e.frames f k.1)
 ]
 
 going_written : (script : ScriptPart) (es : List ThreadNow) → IsGoing script es → (t f : ℕ) (values : List (ℤ × Value)) → IsGoing script (with_change t (thread_written f values) es)
 going_written script es going t f values =
     record {
+      made = going.made;
       distinct = rw (ids_kept (thread_written f values) (λ e. refl) es t) going.distinct;
       each = all_changed (λ (e : ThreadNow). e.id) (Goes script) (thread_written f values) (goes_written script f values) es t going.each;
       once = λ n. let same = total_same (λ (e : ThreadNow). starts n (left script e)) (thread_written f values) (λ e. refl) es t in let once = going.once n in omega arith;
@@ -125,6 +121,7 @@ started_goes script (Go i) es new all = all
 started_goes script (Return v) es new all = all
 started_goes script (Throwing x) es new all = all
 started_goes script (Prepare c) es new all = all
+started_goes script (Again k) es new all = all
 
 total_started : (script : ScriptPart) (n : ℕ) (step : StepPart) (es : List ThreadNow) → starts_left script n (with_started step es) ≡ starts_left script n es
 total_started script n (Start m) es = total_same (λ (e : ThreadNow). starts n (left script e)) alive (λ e. refl) es m
@@ -133,6 +130,7 @@ total_started script n (Go i) es = refl
 total_started script n (Return v) es = refl
 total_started script n (Throwing x) es = refl
 total_started script n (Prepare c) es = refl
+total_started script n (Again k) es = refl
 
 -- the thread that steps is found as it was, but that it may have begun
 found_started : (step : StepPart) (es : List ThreadNow) (t : ℕ) (e : ThreadNow) → with_id (λ (e : ThreadNow). e.id) t es ≡ Some e
@@ -146,6 +144,7 @@ found_started (Go i) es t e h = inl h
 found_started (Return v) es t e h = inl h
 found_started (Throwing x) es t e h = inl h
 found_started (Prepare c) es t e h = inl h
+found_started (Again k) es t e h = inl h
 
 has_id_started : (step : StepPart) (es : List ThreadNow) (u : ℕ) → has_id (with_started step es) u ≡ has_id es u
 has_id_started (Start n) es u = has_id_kept alive (λ e. refl) es n u
@@ -154,6 +153,7 @@ has_id_started (Go i) es u = refl
 has_id_started (Return v) es u = refl
 has_id_started (Throwing x) es u = refl
 has_id_started (Prepare c) es u = refl
+has_id_started (Again k) es u = refl
 
 none_more : (r h : Bool) → (r || (if h then false else false)) ≡ r
 none_more true h = refl
@@ -167,6 +167,7 @@ begun_started (Go i) es u off = refl
 begun_started (Return v) es u off = refl
 begun_started (Throwing x) es u off = refl
 begun_started (Prepare c) es u off = refl
+begun_started (Again k) es u off = refl
 
 -- ---- a step
 
@@ -185,6 +186,7 @@ frames_length (Return v) fs = dropped_length fs
 frames_length (Throwing x) fs = refl
 frames_length (Prepare c) fs = refl
 frames_length (Start n) fs = refl
+frames_length (Again k) fs = refl
 
 moved_placed : (script : ScriptPart) (i : ℕ) (fs : List FrameNow) → AllByRecursion (IsPlaced script) fs → AllByRecursion (IsPlaced script) (moved i fs)
 moved_placed script i [] all = tt
@@ -201,13 +203,19 @@ frames_placed script (Return v) fs can all = dropped_placed script fs all
 frames_placed script (Throwing x) fs can all = all
 frames_placed script (Prepare c) fs can all = all
 frames_placed script (Start n) fs can all = all
+frames_placed script (Again k) fs can all = all
 
--- what a thread can do after its next step
-goes_after : (script : ScriptPart) (e : ThreadNow) (step : StepPart) → next_step script e ≡ Some step → CanMakeAll script (length e.frames) (left script e) → AllByRecursion (IsPlaced script) e.frames → Goes script (after_step step e)
-goes_after script e step next can all =
+back_in : (script : ScriptPart) → AllByRecursion (IsMade script) script.threads → (e : ThreadNow) → (t : ThreadPart) → thread_in script e.id ≡ Some t → loop_lost t.steps ≡ false
+back_in script made e t h = (made_of script made e.id t h).back
+
+-- where a thread stands after its next step
+goes_after : (script : ScriptPart) → AllByRecursion (IsMade script) script.threads → (e : ThreadNow) (step : StepPart) → next_step script e ≡ Some step → StandsAt (thread_in script e.id) e.place (length e.frames) → AllByRecursion (IsPlaced script) e.frames
+    → Goes script (after_step (place_after script e) step e)
+goes_after script made e step next there all =
+    let can = can_make_at script (thread_in script e.id) (made_of script made e.id) e.place (length e.frames) there in
     let both = rw (next_left script e step next) at can in
-    let P : ℕ → Type 0 = λ n. CanMakeAll script n (left script (record e { made = e.made + 1 })) in
-    inr (subst P (sym (frames_length step e.frames)) both.1, frames_placed script step e.frames both.0 all)
+    let P : ℕ → Type 0 = λ n. StandsAt (thread_in script e.id) (place_after script e) n in
+    inr (subst P (sym (frames_length step e.frames)) (stands_after (thread_in script e.id) (back_in script made e) e.place (length e.frames) step there next), frames_placed script step e.frames both.0 all)
 
 nothing_less : (n made : ℕ) → starts n (drop (suc made) []) ≤ starts n (drop made [])
 nothing_less n zero = omega arith
@@ -222,11 +230,24 @@ left_less : (n made : ℕ) (o : Option ThreadPart) → starts n (steps_left o (m
 left_less n made None = omega arith
 left_less n made (Some t) = drop_less n made t.steps
 
-after_less : (script : ScriptPart) (n : ℕ) (step : StepPart) (e : ThreadNow) → starts n (left script (after_step step e)) ≤ starts n (left script e)
-after_less script n step e = left_less n e.made (thread_in script e.id)
+-- as many are left as if it went on behind its step
+after_same : (script : ScriptPart) → AllByRecursion (IsMade script) script.threads → (n : ℕ) (step : StepPart) (e : ThreadNow)
+    → starts n (left script (after_step (place_after script e) step e)) ≡ starts n (left script (record e { place = e.place + 1 }))
+after_same script made n step e = starts_after (thread_in script e.id) (back_in script made e) (e.place + 1) n
 
-after_one_less : (script : ScriptPart) (n : ℕ) (step : StepPart) (e : ThreadNow) → next_step script e ≡ Some step → starts_thread n step ≡ true → starts n (left script (after_step step e)) + 1 ≤ starts n (left script e)
-after_one_less script n step e next h = rw (next_left script e step next, h) (omega arith)
+after_less : (script : ScriptPart) → AllByRecursion (IsMade script) script.threads → (n : ℕ) (step : StepPart) (e : ThreadNow) → starts n (left script (after_step (place_after script e) step e)) ≤ starts n (left script e)
+after_less script made n step e = let same = after_same script made n step e in let less = left_less n e.place (thread_in script e.id) in omega arith
+
+one_less : (n : ℕ) (step : StepPart) (steps : List StepPart) → starts_thread n step ≡ true → starts n steps + 1 ≤ starts n (step ∷ steps)
+one_less n step steps h = rw h (omega arith)
+
+after_one_less : (script : ScriptPart) → AllByRecursion (IsMade script) script.threads → (n : ℕ) (step : StepPart) (e : ThreadNow) → next_step script e ≡ Some step → starts_thread n step ≡ true
+    → starts n (left script (after_step (place_after script e) step e)) + 1 ≤ starts n (left script e)
+after_one_less script made n step e next h =
+    let same = after_same script made n step e in
+    let all = ap (starts n) (next_left script e step next) in
+    let less = one_less n step (left script (record e { place = e.place + 1 })) h in
+    omega arith
 
 waits_by : (b : Bool) (es fs : List ThreadNow) (n : ℕ) (m before : ℕ) → (b ≡ true → m + 1 ≤ before) → (b ≡ false → begun fs n ≡ begun es n) → has_id fs n ≡ has_id es n → m ≤ before → before ≤ 1 → 1 ≤ m → (1 ≤ before → may_begin es n ≡ true) → may_begin fs n ≡ true
 waits_by true es fs n m before less same ids most once some waits = absurd (let l = less refl in omega arith)
@@ -234,28 +255,35 @@ waits_by false es fs n m before less same ids most once some waits = begins_kept
 
 -- who is started by a step that is left then waits
 waits_after : (script : ScriptPart) (es : List ThreadNow) → IsGoing script es → (t : ℕ) (e : ThreadNow) (step : StepPart) → with_id (λ (e : ThreadNow). e.id) t (with_started step es) ≡ Some e → next_step script e ≡ Some step
-    → (n : ℕ) → 1 ≤ starts_left script n (with_change t (after_step step) (with_started step es)) → may_begin (with_change t (after_step step) (with_started step es)) n ≡ true
+    → (n : ℕ) → 1 ≤ starts_left script n (with_change t (after_step (place_after script e) step) (with_started step es)) → may_begin (with_change t (after_step (place_after script e) step) (with_started step es)) n ≡ true
 waits_after script es going t e step found next n h =
     let count = λ (e : ThreadNow). starts n (left script e) in
     let now = with_started step es in
+    let change = after_step (place_after script e) step in
     let same : total count now ≡ total count es = total_started script n step es in
-    waits_by (starts_thread n step) es (with_change t (after_step step) now) n (total count (with_change t (after_step step) now)) (total count es)
-    (λ k. let one = total_one_less count (after_step step) (after_less script n step) now t e found (after_one_less script n step e next k) in omega arith)
-    (λ k. change_within has_begun (after_step step) (λ e. refl) (λ e. refl) now t n ∙ begun_started step es n k)
-    (has_id_kept (after_step step) (λ e. refl) now t n ∙ has_id_started step es n)
-    (let less = total_less count (after_step step) (after_less script n step) now t in omega arith)
+    let apart : IsDistinct (λ (a b : ℕ). a == b) (thread_ids now) = rw (started_ids step es) going.distinct in
+    let moved = total_found count change now t e apart found in
+    waits_by (starts_thread n step) es (with_change t change now) n (total count (with_change t change now)) (total count es)
+    (λ k. let one = after_one_less script going.made n step e next k in omega arith)
+    (λ k. change_within has_begun change (λ e. refl) (λ e. refl) now t n ∙ begun_started step es n k)
+    (has_id_kept change (λ e. refl) now t n ∙ has_id_started step es n)
+    (let less = after_less script going.made n step e in omega arith)
     (going.once n) h (going.waits n)
 
 -- the thread of this id made its next step, as it stands where the one that is started lives
 going_made : (script : ScriptPart) (es : List ThreadNow) → IsGoing script es → (t : ℕ) (e : ThreadNow) (step : StepPart) → with_id (λ (e : ThreadNow). e.id) t (with_started step es) ≡ Some e → next_step script e ≡ Some step
-    → CanMakeAll script (length e.frames) (left script e) → AllByRecursion (IsPlaced script) e.frames → ((n : ℕ) → starts_thread n step ≡ true → begun es n ≡ false) → IsGoing script (with_change t (after_step step) (with_started step es))
-going_made script es going t e step found next can placed new =
+    → StandsAt (thread_in script e.id) e.place (length e.frames) → AllByRecursion (IsPlaced script) e.frames → ((n : ℕ) → starts_thread n step ≡ true → begun es n ≡ false)
+    → IsGoing script (with_change t (after_step (place_after script e) step) (with_started step es))
+going_made script es going t e step found next there placed new =
     let now = with_started step es in
+    let change = after_step (place_after script e) step in
     let apart : IsDistinct (λ (a b : ℕ). a == b) (thread_ids now) = rw (started_ids step es) going.distinct in
     record {
-      distinct = rw (ids_kept (after_step step) (λ e. refl) now t) apart;
-      each = all_changed_found (λ (e : ThreadNow). e.id) (Goes script) (after_step step) now t e apart found (goes_after script e step next can placed) (started_goes script step es new going.each);
-      once = λ n. let less = total_less (λ (e : ThreadNow). starts n (left script e)) (after_step step) (after_less script n step) now t in
+      made = going.made;
+      distinct = rw (ids_kept change (λ e. refl) now t) apart;
+      each = all_changed_found (λ (e : ThreadNow). e.id) (Goes script) change now t e apart found (goes_after script going.made e step next there placed) (started_goes script step es new going.each);
+      once = λ n. let moved = total_found (λ (e : ThreadNow). starts n (left script e)) change now t e apart found in
+          let less = after_less script going.made n step e in
           let same = total_started script n step es in
           let once = going.once n in omega arith;
       waits = λ n h. waits_after script es going t e step found next n h;
@@ -266,17 +294,18 @@ not_begun true h k = absurd (false≢true k)
 not_begun false h k = refl
 
 going_stepped : (s : State) → IsGoing s.script s.threads → (t : ℕ) (e : ThreadNow) (step : StepPart) → thread_at s t ≡ Some e → next_step s.script e ≡ Some step → has (living s.threads) t ≡ true
-    → IsGoing s.script (with_change t (after_step step) (with_started step s.threads))
+    → IsGoing s.script (with_change t (after_step (place_after s.script e) step) (with_started step s.threads))
 going_stepped s going t e step found next lives =
-    let can = can_do s.script s.threads going t e found lives in
+    let there = stands s.script s.threads going t e found lives in
     let new : (n : ℕ) → starts_thread n step ≡ true → begun s.threads n ≡ false =
     λ n h. not_begun (begun s.threads n) (has_id s.threads n) (begins_next s.script s.threads going t e step found next n h) in
     elim (found_started step s.threads t e found) [
-      | inl k ↦ going_made s.script s.threads going t e step k next can.0 can.1 new
-      | inr k ↦ going_made s.script s.threads going t (alive e) step k next can.0 can.1 new
+      | inl k ↦ going_made s.script s.threads going t e step k next there.0 there.1 new
+      | inr k ↦ going_made s.script s.threads going t (alive e) step k next there.0 there.1 new
     ]
 
-stepped_at : (s : State) → IsGoing s.script s.threads → (t : ℕ) (e : ThreadNow) (o : Option StepPart) → thread_at s t ≡ Some e → next_step s.script e ≡ o → has (living s.threads) t ≡ true → IsGoing (stepped_by s t o).script (stepped_by s t o).threads
+stepped_at : (s : State) → IsGoing s.script s.threads → (t : ℕ) (e : ThreadNow) (o : Option StepPart) → thread_at s t ≡ Some e → next_step s.script e ≡ o → has (living s.threads) t ≡ true
+    → IsGoing (stepped_by s t (place_after s.script e) o).script (stepped_by s t (place_after s.script e) o).threads
 stepped_at s going t e None found next lives = going
 stepped_at s going t e (Some step) found next lives = going_stepped s going t e step found next lives
 

@@ -4,6 +4,7 @@ pub mod CanSteps
 pub mod Changes
 pub mod Going
 pub mod GoingOn
+pub mod Loops
 pub mod Machines
 pub mod Openings
 pub mod Reaches

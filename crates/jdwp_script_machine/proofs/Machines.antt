@@ -14,7 +14,7 @@ use Rattle.jdwp_script.specs.Reading.{◌>>=◌, Fails}
 use Rattle.jdwp_script.specs.TooWide.{is_no_width}
 use Rattle.jdwp_script.specs.Faults.{first_fault}
 use Rattle.jdwp_script_machine.specs.States.{ThreadNow, State, thread_at, living, opening}
-use Rattle.jdwp_script_machine.specs.Steps.{next_step, stepped_by, stepped_of, stepped}
+use Rattle.jdwp_script_machine.specs.Steps.{next_step, place_after, stepped_by, stepped_of, stepped}
 use Rattle.jdwp_script_machine.specs.Sound.{IsSound}
 use Rattle.jdwp_script_machine.specs.Machines.{IsMachine}
 use Rattle.jdwp_script_machine.specs.SoundLaws.{started_length, written_sound}
@@ -62,13 +62,13 @@ fails_on OverLimit r f h = rw h refl
 
 -- ---- how many threads there are
 
-stepped_by_length : (s : State) (t : ℕ) (p : Option StepPart) → length (stepped_by s t p).threads ≡ length s.threads
-stepped_by_length s t None = refl
-stepped_by_length s t (Some step) = length-map _ _ ∙ started_length step s.threads
+stepped_by_length : (s : State) (t place : ℕ) (p : Option StepPart) → length (stepped_by s t place p).threads ≡ length s.threads
+stepped_by_length s t place None = refl
+stepped_by_length s t place (Some step) = length-map _ _ ∙ started_length step s.threads
 
 stepped_of_length : (s : State) (t : ℕ) (o : Option ThreadNow) → length (stepped_of s t o).threads ≡ length s.threads
 stepped_of_length s t None = refl
-stepped_of_length s t (Some e) = stepped_by_length s t (next_step s.script e)
+stepped_of_length s t (Some e) = stepped_by_length s t (place_after s.script e) (next_step s.script e)
 
 pub stepped_length : (s : State) (t : ℕ) → length (stepped s t).threads ≡ length s.threads
 stepped_length s t = stepped_of_length s t (thread_at s t)

@@ -5,7 +5,7 @@ use Rattle.std.proofs.lemmas.List.Folds.{list_any-append}
 use Rattle.std.specs.List.{list_any, filter, flat_map}
 use Rattle.jdwp_script.specs.declared.fault.ScriptFault.{ScriptFault}
 use Rattle.jdwp_script.specs.declared.fault.ScriptFault.TheVariants.{IdTwice, IdTooWide, BadReference, OverLimit}
-use Rattle.jdwp_script.specs.Parts.{StepPart, Call, Go, Return, Throwing, Prepare, Start, ThreadPart, ScriptPart}
+use Rattle.jdwp_script.specs.Parts.{StepPart, Call, Go, Return, Throwing, Prepare, Start, Again, ThreadPart, ScriptPart}
 use Rattle.jdwp_script.specs.Limits.{over, is_long, is_in, started_by, started, group_passes, class_passes, object_passes, thread_passes, module_passes, passes_limit}
 use Rattle.jdwp_script.specs.Limits as limits
 use Rattle.jdwp_script.specs.Faults.{first_fault}
@@ -65,6 +65,7 @@ starts_in t (Go n ∷ steps) = starts_in t steps
 starts_in t (Return v ∷ steps) = starts_in t steps
 starts_in t (Throwing x ∷ steps) = starts_in t steps
 starts_in t (Prepare n ∷ steps) = starts_in t steps
+starts_in t (Again k ∷ steps) = starts_in t steps
 
 some_starts : (t : ℕ) (ts : List ThreadPart) → list_any (λ (x : ThreadPart). list_any (starts_thread t) x.steps) ts ≡ is_in (started ts) t
 some_starts t [] = refl

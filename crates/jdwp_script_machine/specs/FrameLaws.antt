@@ -8,10 +8,10 @@ use Rattle.jdwp_layout.specs.CommandNumbers.{CommandNumber, is_command, FRAMES, 
 use Rattle.jdwp_layout.specs.Meanings.{Int, Object, Frame, DatumMeaning, One}
 use Rattle.jdwp_machine.specs.declared.query.Query.{Query}
 use Rattle.jdwp_machine.specs.Laws.{begins_with, asks_places, asks_slots, asks_frames}
-use Rattle.jdwp_script.specs.Parts.{StepPart, Call, Go, Return, Throwing, Prepare, Start, ScriptPart}
+use Rattle.jdwp_script.specs.Parts.{StepPart, Call, Go, Return, Throwing, Prepare, Start, Again, ScriptPart}
 use Rattle.jdwp_script_machine.specs.LookUps.{with_id, changed}
 use Rattle.jdwp_script_machine.specs.States.{FrameNow, ThreadNow, State, thread_at}
-use Rattle.jdwp_script_machine.specs.Steps.{next_step, after_step, alive, with_started, stepped_by, stepped_of, stepped, gone, ended}
+use Rattle.jdwp_script_machine.specs.Steps.{next_step, place_after, after_step, alive, with_started, stepped_by, stepped_of, stepped, gone, ended}
 use Rattle.jdwp_script_machine.specs.SlotWrites.{frame_in, frame_written, thread_written, write_refusal, written_by, written}
 use Rattle.jdwp_script_machine.specs.Requests.{Asks, found_or, of_frames, of_frame_in, part_from, part_of}
 use Rattle.jdwp_script_machine.specs.ThreadAnswers.{frames_at, frame_entry, frames_listed, frames_answer, frame_count_answer, slots_answer, this_answer}
@@ -27,15 +27,16 @@ started_frames (Go n) es u = refl
 started_frames (Return v) es u = refl
 started_frames (Throwing x) es u = refl
 started_frames (Prepare n) es u = refl
+started_frames (Again k) es u = refl
 
-stepped_by_frames : (s : State) (t u : ℕ) (p : Option StepPart) → t ≢ u → frames_at (stepped_by s t p) u ≡ frames_at s u
-stepped_by_frames s t u None ne = refl
-stepped_by_frames s t u (Some step) ne =
-    ap (option_map (λ (e : ThreadNow). e.frames)) (found_other (λ (e : ThreadNow). e.id) (after_step step) (λ e. refl) (with_started step s.threads) t u ne) ∙ started_frames step s.threads u
+stepped_by_frames : (s : State) (t u place : ℕ) (p : Option StepPart) → t ≢ u → frames_at (stepped_by s t place p) u ≡ frames_at s u
+stepped_by_frames s t u place None ne = refl
+stepped_by_frames s t u place (Some step) ne =
+    ap (option_map (λ (e : ThreadNow). e.frames)) (found_other (λ (e : ThreadNow). e.id) (after_step place step) (λ e. refl) (with_started step s.threads) t u ne) ∙ started_frames step s.threads u
 
 stepped_of_frames : (s : State) (t u : ℕ) (o : Option ThreadNow) → t ≢ u → frames_at (stepped_of s t o) u ≡ frames_at s u
 stepped_of_frames s t u None ne = refl
-stepped_of_frames s t u (Some e) ne = stepped_by_frames s t u (next_step s.script e) ne
+stepped_of_frames s t u (Some e) ne = stepped_by_frames s t u (place_after s.script e) (next_step s.script e) ne
 
 pub stepped_frames : (s : State) (t u : ℕ) → t ≢ u → frames_at (stepped s t) u ≡ frames_at s u
 stepped_frames s t u ne = stepped_of_frames s t u (thread_at s t) ne

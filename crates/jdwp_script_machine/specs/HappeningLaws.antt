@@ -9,7 +9,7 @@ use Rattle.jdwp_machine.specs.Laws.{OccurrenceFits, HasShortSignature, SIGNATURE
 use Rattle.jdwp_script.specs.declared.step.Place.{Place}
 use Rattle.jdwp_script.specs.declared.step.Throw.{Throw}
 use Rattle.jdwp_script.specs.Literals.{literal_value}
-use Rattle.jdwp_script.specs.Parts.{MethodPart, ClassPart, ObjectPart, StepPart, Call, Go, Return, Throwing, Prepare, Start, ScriptPart}
+use Rattle.jdwp_script.specs.Parts.{MethodPart, ClassPart, ObjectPart, StepPart, Call, Go, Return, Throwing, Prepare, Start, Again, ScriptPart}
 use Rattle.jdwp_script_machine.specs.States.{FrameNow, Life, ThreadNow, State, thread_at, begun, may_begin}
 use Rattle.jdwp_script_machine.specs.Sites.{class_in, method_in, object_in, site_place, newest_place}
 use Rattle.jdwp_script_machine.specs.Steps.{called, moved, FRAME_LIMIT, caught_at, thrown, threw, prepared, occurrence, named_by, happening_by, happening_at, happening_of, next, next_step}
@@ -95,6 +95,7 @@ occurrence_good s sound fs (Throwing t) good x h =
 occurrence_good s sound fs (Prepare n) good x h =
     prepared_good s.script (class_in s.script n) (λ c e. all_found (λ (c : ClassPart). c.id) (ClassIsSound s.script.sizes) s.script.classes n c sound.script.each_class e) x h
 occurrence_good s sound fs (Start n) good x h = started_good s.script.sizes (may_begin s.threads n) x h
+occurrence_good s sound fs (Again k) good x h = absurd cc
 
 by_good : (s : State) → IsSound s → (t : ℕ) (fs : List FrameNow) (step : StepPart) → StepIsSound s.script.sizes step → (o : Option OccurrenceMeaning) → occurrence s fs step ≡ o → IsGood s.script.sizes (happening_by t step o).occurrence
 by_good s sound t fs step good None h = record { fits = tt; short = tt }
@@ -148,6 +149,7 @@ named_by_fits s sound t fits fs (Go n) = named_own s.script.sizes t (Go n) refl 
 named_by_fits s sound t fits fs (Return v) = named_own s.script.sizes t (Return v) refl fits (occurrence s fs (Return v))
 named_by_fits s sound t fits fs (Throwing x) = named_own s.script.sizes t (Throwing x) refl fits (occurrence s fs (Throwing x))
 named_by_fits s sound t fits fs (Prepare n) = named_own s.script.sizes t (Prepare n) refl fits (occurrence s fs (Prepare n))
+named_by_fits s sound t fits fs (Again k) = fits
 
 named_at_fits : (s : State) → IsSound s → (t : ℕ) → Fits s.script.sizes.object t → (fs : List FrameNow) (p : Option StepPart) → Fits s.script.sizes.object (happening_at s t fs p).thread
 named_at_fits s sound t fits fs None = fits

@@ -4,11 +4,11 @@ use Rattle.std.proofs.lemmas.Bool.{eqb-true, false≢true}
 use Rattle.std.proofs.Math.Bool.{or-false}
 use Rattle.jdwp_event.specs.Occurrences.{OccurrenceMeaning, Moved, Entered, Left, Threw, Prepared, Started, PlaceMeaning, started, started_by, runs_out}
 use Rattle.jdwp_script.specs.declared.step.Throw.{Throw}
-use Rattle.jdwp_script.specs.Parts.{ClassPart, ObjectPart, StepPart, Call, Go, Return, Throwing, Prepare, Start, ScriptPart}
+use Rattle.jdwp_script.specs.Parts.{ClassPart, ObjectPart, StepPart, Call, Go, Return, Throwing, Prepare, Start, Again, ScriptPart}
 use Rattle.jdwp_machine.specs.Laws.{is_named}
 use Rattle.jdwp_script_machine.specs.States.{FrameNow, Life, Lives, ThreadNow, State, has_begun, begun, may_begin, thread_at}
 use Rattle.jdwp_script_machine.specs.Sites.{class_in, object_in, newest_place}
-use Rattle.jdwp_script_machine.specs.Steps.{called, moved, FRAME_LIMIT, thrown, threw, prepared, occurrence, named_by, happening_by, happening_at, happening_of, next, next_step, after_step, alive, with_started, stepped_by, stepped_of, stepped, gone}
+use Rattle.jdwp_script_machine.specs.Steps.{called, moved, FRAME_LIMIT, thrown, threw, prepared, occurrence, named_by, happening_by, happening_at, happening_of, next, next_step, place_after, after_step, alive, with_started, stepped_by, stepped_of, stepped, gone}
 use Rattle.jdwp_script_machine.specs.StateLaws.{either, in_life, has_id, with_change, change_into, change_within}
 
 -- ---- which thread is named
@@ -21,6 +21,7 @@ start_of es (Go n) = None
 start_of es (Return v) = None
 start_of es (Throwing x) = None
 start_of es (Prepare n) = None
+start_of es (Again k) = None
 
 none_by : {A : Type 0} (f : A → OccurrenceMeaning) → ((t : ℕ) (x : A) → started_by t (f x) ≡ None) → (t : ℕ) (step : StepPart) (o : Option A) → started (happening_by t step (option_map f o)) ≡ None
 none_by f plain t step None = refl
@@ -45,6 +46,7 @@ started_at s t fs (Go n) = none_by (λ p. Moved p) (λ t x. refl) t (Go n) (newe
 started_at s t fs (Return v) = none_by (λ p. Left p _) (λ t x. refl) t (Return v) (newest_place s.script fs)
 started_at s t fs (Throwing x) = none_thrown s.script x t (Throwing x) (newest_place s.script fs) (object_in s.script x.object.0)
 started_at s t fs (Prepare n) = none_by (λ (c : ClassPart). Prepared (prepared s.script c)) (λ t x. refl) t (Prepare n) (class_in s.script n)
+started_at s t fs (Again k) = refl
 
 named_own : (t : ℕ) (step : StepPart) → named_by t step ≡ t → (o : Option OccurrenceMeaning) → (happening_by t step o).thread ≡ t
 named_own t step own None = refl
@@ -61,6 +63,7 @@ own_by s t fs (Go n) h = named_own t (Go n) refl (occurrence s fs (Go n))
 own_by s t fs (Return v) h = named_own t (Return v) refl (occurrence s fs (Return v))
 own_by s t fs (Throwing x) h = named_own t (Throwing x) refl (occurrence s fs (Throwing x))
 own_by s t fs (Prepare n) h = named_own t (Prepare n) refl (occurrence s fs (Prepare n))
+own_by s t fs (Again k) h = refl
 
 own_at : (s : State) (t : ℕ) (fs : List FrameNow) (p : Option StepPart) → started (happening_at s t fs p) ≡ None → (happening_at s t fs p).thread ≡ t
 own_at s t fs None h = refl
@@ -92,6 +95,7 @@ start_new es (Go i) n h = absurd cc
 start_new es (Return v) n h = absurd cc
 start_new es (Throwing x) n h = absurd cc
 start_new es (Prepare i) n h = absurd cc
+start_new es (Again k) n h = absurd cc
 
 new_at : (s : State) (t n : ℕ) (fs : List FrameNow) (p : Option StepPart) → started (happening_at s t fs p) ≡ Some n → begun s.threads n ≡ false
 new_at s t n fs None h = absurd cc
@@ -118,17 +122,18 @@ started_into test lives s t u fs (Go n) h = sym (or-false _)
 started_into test lives s t u fs (Return v) h = sym (or-false _)
 started_into test lives s t u fs (Throwing x) h = sym (or-false _)
 started_into test lives s t u fs (Prepare n) h = sym (or-false _)
+started_into test lives s t u fs (Again k) h = sym (or-false _)
 
-stepped_into_by : (test : Life → Bool) → test Lives ≡ true → (s : State) (t u : ℕ) (fs : List FrameNow) (p : Option StepPart) → runs_out (happening_at s t fs p) ≡ false
-    → in_life test (stepped_by s t p).threads u ≡ (in_life test s.threads u || is_named (started (happening_at s t fs p)) u)
-stepped_into_by test lives s t u fs None h = sym (or-false _)
-stepped_into_by test lives s t u fs (Some step) h =
-    rw (change_within test (after_step step) (λ e. refl) (λ e. refl) (with_started step s.threads) t u, started_at s t fs step) (started_into test lives s t u fs step h)
+stepped_into_by : (test : Life → Bool) → test Lives ≡ true → (s : State) (t u place : ℕ) (fs : List FrameNow) (p : Option StepPart) → runs_out (happening_at s t fs p) ≡ false
+    → in_life test (stepped_by s t place p).threads u ≡ (in_life test s.threads u || is_named (started (happening_at s t fs p)) u)
+stepped_into_by test lives s t u place fs None h = sym (or-false _)
+stepped_into_by test lives s t u place fs (Some step) h =
+    rw (change_within test (after_step place step) (λ e. refl) (λ e. refl) (with_started step s.threads) t u, started_at s t fs step) (started_into test lives s t u fs step h)
 
 stepped_into_of : (test : Life → Bool) → test Lives ≡ true → (s : State) (t u : ℕ) (o : Option ThreadNow) → runs_out (happening_of s t o) ≡ false
     → in_life test (stepped_of s t o).threads u ≡ (in_life test s.threads u || is_named (started (happening_of s t o)) u)
 stepped_into_of test lives s t u None h = sym (or-false _)
-stepped_into_of test lives s t u (Some e) h = stepped_into_by test lives s t u e.frames (next_step s.script e) h
+stepped_into_of test lives s t u (Some e) h = stepped_into_by test lives s t u (place_after s.script e) e.frames (next_step s.script e) h
 
 pub stepped_into : (test : Life → Bool) → test Lives ≡ true → (s : State) (t u : ℕ) → runs_out (next s t) ≡ false
     → in_life test (stepped s t).threads u ≡ (in_life test s.threads u || is_named (started (next s t)) u)
@@ -145,13 +150,13 @@ begun_ended es t u h = rw (change_into has_begun gone (λ e. refl) (λ e. refl) 
 
 -- ---- the script and the widths stay
 
-stepped_by_script : (s : State) (t : ℕ) (p : Option StepPart) → (stepped_by s t p).script ≡ s.script
-stepped_by_script s t None = refl
-stepped_by_script s t (Some step) = refl
+stepped_by_script : (s : State) (t place : ℕ) (p : Option StepPart) → (stepped_by s t place p).script ≡ s.script
+stepped_by_script s t place None = refl
+stepped_by_script s t place (Some step) = refl
 
 stepped_of_script : (s : State) (t : ℕ) (o : Option ThreadNow) → (stepped_of s t o).script ≡ s.script
 stepped_of_script s t None = refl
-stepped_of_script s t (Some e) = stepped_by_script s t (next_step s.script e)
+stepped_of_script s t (Some e) = stepped_by_script s t (place_after s.script e) (next_step s.script e)
 
 pub stepped_script : (s : State) (t : ℕ) → (stepped s t).script ≡ s.script
 stepped_script s t = stepped_of_script s t (thread_at s t)

@@ -12,7 +12,7 @@ use Rattle.jdwp_script.specs.declared.script.FieldValue.{FieldValue}
 use Rattle.jdwp_script.specs.declared.step.SlotValue.{SlotValue}
 use Rattle.jdwp_script.specs.declared.step.Literal.{Literal}
 use Rattle.jdwp_script.specs.Literals.{value_of_bits}
-use Rattle.jdwp_script.specs.Parts.{GroupPart, FieldPart, SlotPart, MethodPart, ClassPart, ElementsPart, ObjectPart, StepPart, Call, Go, Return, Throwing, Prepare, Start, ThreadPart, ModulePart, ScriptPart}
+use Rattle.jdwp_script.specs.Parts.{GroupPart, FieldPart, SlotPart, MethodPart, ClassPart, ElementsPart, ObjectPart, StepPart, Call, Go, Return, Throwing, Prepare, Start, Again, ThreadPart, ModulePart, ScriptPart}
 use Rattle.jdwp_script.specs.Limits.{TEXT_LIMIT, LIST_LIMIT, over, is_long, if_there, is_in, field_passes, slot_passes, method_passes, class_passes, elements_pass, object_passes, step_passes, is_deep, thread_passes, module_passes, living, passes_limit}
 use Rattle.jdwp_script.specs.Twice.{group_ids, object_ids, module_ids, shared_ids, is_twice, class_ids, method_ids, field_ids, frame_ids, has_id_twice}
 use Rattle.jdwp_script.specs.Twice as twice
@@ -180,6 +180,7 @@ step_sound w (Return v) wide = literal_fits w v wide
 step_sound w (Throwing x) wide = tt
 step_sound w (Prepare n) wide = tt
 step_sound w (Start n) wide = tt
+step_sound w (Again k) wide = tt
 
 thread_sound : (w : Widths) (t : ThreadPart) → thread_passes t ≡ false → thread_wide w t ≡ false → ThreadIsSound w t
 thread_sound w t limits wide =

@@ -1,9 +1,12 @@
 -- What becomes of a machine: the states that steps, ends and writes of slots lead to, and who has used up the steps of the script.
-use Rattle.std.specs.Prelude.{◌≡◌, ℕ, ℤ, true, false, List, [], ◌∷◌, None, option_and_then}
+use Rattle.std.specs.Prelude.{◌≡◌, ℕ, ℤ, ◌-◌, Bool, true, false, List, [], ◌∷◌, length, slice_get, Option, Some, None, option_and_then}
 use Rattle.jdwp_value.specs.declared.value.Value.{Value}
 use Rattle.jdwp_event.specs.Occurrences.{runs_out}
 use Rattle.jdwp_machine.specs.Meanings.{has}
+use Rattle.jdwp_script.specs.Parts.{StepPart, ThreadPart}
+use Rattle.jdwp_script.specs.References.{goes_back}
 use Rattle.jdwp_script_machine.specs.States.{State, living, thread_at}
+use Rattle.jdwp_script_machine.specs.Sites.{thread_in}
 use Rattle.jdwp_script_machine.specs.Steps.{next_step, next, stepped, ended}
 use Rattle.jdwp_script_machine.specs.SlotWrites.{written}
 
@@ -40,3 +43,15 @@ HasUsedUp s t = option_and_then (next_step s.script) (thread_at s t) ≡ None
 -- A thread that lives has run out only where it has used up its steps: a step that is left can be made.
 abbrev pub CanGoOn : State → Type 0
 CanGoOn s = (t : ℕ) → has (living s.threads) t ≡ true → runs_out (next s t) ≡ true → HasUsedUp s t
+
+abbrev pub is_back : Option StepPart → Bool
+is_back None = false
+is_back (Some step) = goes_back step
+
+-- whether a list of steps ends with an `again`
+abbrev pub goes_round : List StepPart → Bool
+goes_round steps = is_back (slice_get steps (length steps - 1))
+
+-- A thread that lives and whose list ends with an `again` has not run out: it goes on for ever.
+abbrev pub NeverRunsOut : State → Type 0
+NeverRunsOut s = (t : ℕ) (p : ThreadPart) → has (living s.threads) t ≡ true → thread_in s.script t ≡ Some p → goes_round p.steps ≡ true → runs_out (next s t) ≡ false

@@ -16,7 +16,7 @@ is_that n (Some k) = k == n
 
 -- a thread at the beginning, where a step starts it or none does
 abbrev pub thread_at_opening : ℕ → Bool → ThreadNow
-thread_at_opening id is_started = record { id = id; life = if is_started then Waits else Lives; made = 0; frames = [] }
+thread_at_opening id is_started = record { id = id; life = if is_started then Waits else Lives; place = 0; frames = [] }
 
 -- a class at the beginning, where a step prepares it or none does
 abbrev pub class_at_opening : ℕ → Bool → ClassNow

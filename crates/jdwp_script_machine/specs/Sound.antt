@@ -9,7 +9,7 @@ use Rattle.jdwp_script.specs.declared.script.FieldValue.{FieldValue}
 use Rattle.jdwp_script.specs.declared.step.SlotValue.{SlotValue}
 use Rattle.jdwp_script.specs.declared.step.Literal.{Literal}
 use Rattle.jdwp_script.specs.Literals.{literal_value, value_of_bits}
-use Rattle.jdwp_script.specs.Parts.{GroupPart, FieldPart, SlotPart, MethodPart, ClassPart, ElementsPart, ObjectPart, CallPart, StepPart, Call, Go, Return, Throwing, Prepare, Start, ThreadPart, ModulePart, ScriptPart}
+use Rattle.jdwp_script.specs.Parts.{GroupPart, FieldPart, SlotPart, MethodPart, ClassPart, ElementsPart, ObjectPart, CallPart, StepPart, Call, Go, Return, Throwing, Prepare, Start, Again, ThreadPart, ModulePart, ScriptPart}
 use Rattle.jdwp_script_machine.specs.States.{SlotNow, FrameNow, ThreadNow, State}
 use Rattle.jdwp_machine.specs.Laws.{SIGNATURE_LIMIT}
 use Rattle.jdwp_script_machine.specs.Steps.{FRAME_LIMIT}
@@ -90,6 +90,7 @@ StepIsSound w (Return v) = ValueFits w v
 StepIsSound w (Throwing x) = Unit {0}
 StepIsSound w (Prepare n) = Unit {0}
 StepIsSound w (Start n) = Unit {0}
+StepIsSound w (Again k) = Unit {0}
 
 pub record ThreadIsSound (w : Widths) (t : ThreadPart) : Type 0 where
   pub id : Fits w.object t.id

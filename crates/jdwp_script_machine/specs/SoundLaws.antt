@@ -13,11 +13,11 @@ use Rattle.jdwp_value.specs.declared.value.Value.TheVariants as value
 use Rattle.jdwp_value.specs.Values.{value_refusal, tag_of}
 use Rattle.jdwp_event.specs.Occurrences.{runs_out}
 use Rattle.jdwp_script.specs.declared.step.SlotValue.{SlotValue}
-use Rattle.jdwp_script.specs.Parts.{GroupPart, ObjectPart, CallPart, StepPart, Call, Go, Return, Throwing, Prepare, Start, ThreadPart, ScriptPart}
+use Rattle.jdwp_script.specs.Parts.{GroupPart, ObjectPart, CallPart, StepPart, Call, Go, Return, Throwing, Prepare, Start, Again, ThreadPart, ScriptPart}
 use Rattle.jdwp_script_machine.specs.LookUps.{with_id, changed, is_some}
 use Rattle.jdwp_script_machine.specs.States.{SlotNow, FrameNow, ThreadNow, State, thread_at}
 use Rattle.jdwp_script_machine.specs.Sites.{thread_in, object_in, group_in, is_known}
-use Rattle.jdwp_script_machine.specs.Steps.{slot_now, called, moved, frames_after, FRAME_LIMIT, occurrence, happening_by, happening_at, happening_of, next, next_step, after_step, alive, with_started, stepped_by, stepped_of, stepped, gone, ended}
+use Rattle.jdwp_script_machine.specs.Steps.{slot_now, called, moved, frames_after, FRAME_LIMIT, occurrence, happening_by, happening_at, happening_of, next, next_step, place_after, after_step, alive, with_started, stepped_by, stepped_of, stepped, gone, ended}
 use Rattle.jdwp_script_machine.specs.SlotWrites.{has_slot, slot_value, found_suits, may_hold, slots_refusal, frame_refusal, frame_in, thread_refusal, write_refusal, slot_written, slots_written, frame_written, thread_written, written_by, written}
 use Rattle.jdwp_script_machine.specs.Sound.{Fits, ValueFits, StepIsSound, CallIsSound, ThreadIsSound, GroupIsSound, ObjectIsSound, ScriptIsSound, SlotNowIsSound, FrameIsSound, ThreadNowIsSound, thread_ids, IsSound}
 use Rattle.jdwp_script_machine.specs.StateLaws.{either, with_change, ids_kept}
@@ -72,15 +72,15 @@ all_changed_found key P change (y ∷ ys) n x distinct found step all = elim (ei
 
 -- ---- a step
 
-sound_step_of : (w : Widths) (ts : List ThreadPart) (id made : ℕ) (o : Option ThreadPart) (step : StepPart) → AllByRecursion (ThreadIsSound w) ts → with_id (λ (t : ThreadPart). t.id) id ts ≡ o
-    → option_and_then (λ (t : ThreadPart). slice_get t.steps made) o ≡ Some step → StepIsSound w step
-sound_step_of w ts id made None step all found h = absurd cc
-sound_step_of w ts id made (Some t) step all found h =
+sound_step_of : (w : Widths) (ts : List ThreadPart) (id place : ℕ) (o : Option ThreadPart) (step : StepPart) → AllByRecursion (ThreadIsSound w) ts → with_id (λ (t : ThreadPart). t.id) id ts ≡ o
+    → option_and_then (λ (t : ThreadPart). slice_get t.steps place) o ≡ Some step → StepIsSound w step
+sound_step_of w ts id place None step all found h = absurd cc
+sound_step_of w ts id place (Some t) step all found h =
     let sound : ThreadIsSound w t = all_found (λ (t : ThreadPart). t.id) (ThreadIsSound w) ts id t all found in
-    all_get (StepIsSound w) t.steps made step sound.steps h
+    all_get (StepIsSound w) t.steps place step sound.steps h
 
 pub sound_step : (script : ScriptPart) (e : ThreadNow) (step : StepPart) → ScriptIsSound script → next_step script e ≡ Some step → StepIsSound script.sizes step
-sound_step script e step sound h = sound_step_of script.sizes script.threads e.id e.made (thread_in script e.id) step sound.each_thread refl h
+sound_step script e step sound h = sound_step_of script.sizes script.threads e.id e.place (thread_in script e.id) step sound.each_thread refl h
 
 called_sound : (w : Widths) (c : CallPart) → CallIsSound w c → FrameIsSound w (called c)
 called_sound w c h =
@@ -103,8 +103,8 @@ dropped_length [] n h = h
 dropped_length (f ∷ fs) n h = omega arith
 
 -- steps but a call leave each thread sound
-after_sound : (w : Widths) (step : StepPart) (e : ThreadNow) → length (frames_after step e.frames) ≤ FRAME_LIMIT → AllByRecursion (FrameIsSound w) (frames_after step e.frames) → ThreadNowIsSound w e → ThreadNowIsSound w (after_step step e)
-after_sound w step e short all h = record { id = h.id; frames = short; each_frame = all }
+after_sound : (w : Widths) (place : ℕ) (step : StepPart) (e : ThreadNow) → length (frames_after step e.frames) ≤ FRAME_LIMIT → AllByRecursion (FrameIsSound w) (frames_after step e.frames) → ThreadNowIsSound w e → ThreadNowIsSound w (after_step place step e)
+after_sound w place step e short all h = record { id = h.id; frames = short; each_frame = all }
 
 pub alive_sound : (w : Widths) (e : ThreadNow) → ThreadNowIsSound w e → ThreadNowIsSound w (alive e)
 alive_sound w e h = record { id = h.id; frames = h.frames; each_frame = h.each_frame }
@@ -124,29 +124,33 @@ made_room s t fs (Return v) few h = dropped_length fs FRAME_LIMIT few
 made_room s t fs (Throwing x) few h = few
 made_room s t fs (Prepare n) few h = few
 made_room s t fs (Start n) few h = few
+made_room s t fs (Again k) few h = few
 
-threads_sound : (s : State) (t : ℕ) (e : ThreadNow) (step : StepPart) → IsSound s → thread_at s t ≡ Some e → StepIsSound s.script.sizes step → length (frames_after step e.frames) ≤ FRAME_LIMIT
-    → AllByRecursion (ThreadNowIsSound s.script.sizes) (with_change t (after_step step) (with_started step s.threads))
-threads_sound s t e (Call c) sound found good h =
+threads_sound : (s : State) (t place : ℕ) (e : ThreadNow) (step : StepPart) → IsSound s → thread_at s t ≡ Some e → StepIsSound s.script.sizes step → length (frames_after step e.frames) ≤ FRAME_LIMIT
+    → AllByRecursion (ThreadNowIsSound s.script.sizes) (with_change t (after_step place step) (with_started step s.threads))
+threads_sound s t place e (Call c) sound found good h =
     let w = s.script.sizes in
     let own : ThreadNowIsSound w e = all_found (λ (e : ThreadNow). e.id) (ThreadNowIsSound w) s.threads t e sound.each_thread found in
-    all_changed_found (λ (e : ThreadNow). e.id) (ThreadNowIsSound w) (after_step (Call c)) s.threads t e sound.distinct found
-    (after_sound w (Call c) e h (called_sound w c good, own.each_frame) own) sound.each_thread
-threads_sound s t e (Go n) sound found good h =
+    all_changed_found (λ (e : ThreadNow). e.id) (ThreadNowIsSound w) (after_step place (Call c)) s.threads t e sound.distinct found
+    (after_sound w place (Call c) e h (called_sound w c good, own.each_frame) own) sound.each_thread
+threads_sound s t place e (Go n) sound found good h =
     let w = s.script.sizes in
-    all_changed (λ (e : ThreadNow). e.id) (ThreadNowIsSound w) (after_step (Go n)) (λ x p. after_sound w (Go n) x (rw (moved_length n x.frames) p.frames) (moved_sound w n x.frames p.each_frame) p) s.threads t sound.each_thread
-threads_sound s t e (Return v) sound found good h =
+    all_changed (λ (e : ThreadNow). e.id) (ThreadNowIsSound w) (after_step place (Go n)) (λ x p. after_sound w place (Go n) x (rw (moved_length n x.frames) p.frames) (moved_sound w n x.frames p.each_frame) p) s.threads t sound.each_thread
+threads_sound s t place e (Return v) sound found good h =
     let w = s.script.sizes in
-    all_changed (λ (e : ThreadNow). e.id) (ThreadNowIsSound w) (after_step (Return v)) (λ x p. after_sound w (Return v) x (dropped_length x.frames FRAME_LIMIT p.frames) (dropped_sound w x.frames p.each_frame) p) s.threads t sound.each_thread
-threads_sound s t e (Throwing x) sound found good h =
+    all_changed (λ (e : ThreadNow). e.id) (ThreadNowIsSound w) (after_step place (Return v)) (λ x p. after_sound w place (Return v) x (dropped_length x.frames FRAME_LIMIT p.frames) (dropped_sound w x.frames p.each_frame) p) s.threads t sound.each_thread
+threads_sound s t place e (Throwing x) sound found good h =
     let w = s.script.sizes in
-    all_changed (λ (e : ThreadNow). e.id) (ThreadNowIsSound w) (after_step (Throwing x)) (λ y p. after_sound w (Throwing x) y p.frames p.each_frame p) s.threads t sound.each_thread
-threads_sound s t e (Prepare n) sound found good h =
+    all_changed (λ (e : ThreadNow). e.id) (ThreadNowIsSound w) (after_step place (Throwing x)) (λ y p. after_sound w place (Throwing x) y p.frames p.each_frame p) s.threads t sound.each_thread
+threads_sound s t place e (Prepare n) sound found good h =
     let w = s.script.sizes in
-    all_changed (λ (e : ThreadNow). e.id) (ThreadNowIsSound w) (after_step (Prepare n)) (λ y p. after_sound w (Prepare n) y p.frames p.each_frame p) s.threads t sound.each_thread
-threads_sound s t e (Start n) sound found good h =
+    all_changed (λ (e : ThreadNow). e.id) (ThreadNowIsSound w) (after_step place (Prepare n)) (λ y p. after_sound w place (Prepare n) y p.frames p.each_frame p) s.threads t sound.each_thread
+threads_sound s t place e (Again k) sound found good h =
     let w = s.script.sizes in
-    all_changed (λ (e : ThreadNow). e.id) (ThreadNowIsSound w) (after_step (Start n)) (λ y p. after_sound w (Start n) y p.frames p.each_frame p) (with_change n alive s.threads) t
+    all_changed (λ (e : ThreadNow). e.id) (ThreadNowIsSound w) (after_step place (Again k)) (λ y p. after_sound w place (Again k) y p.frames p.each_frame p) s.threads t sound.each_thread
+threads_sound s t place e (Start n) sound found good h =
+    let w = s.script.sizes in
+    all_changed (λ (e : ThreadNow). e.id) (ThreadNowIsSound w) (after_step place (Start n)) (λ y p. after_sound w place (Start n) y p.frames p.each_frame p) (with_change n alive s.threads) t
     (all_changed (λ (e : ThreadNow). e.id) (ThreadNowIsSound w) alive (alive_sound w) s.threads n sound.each_thread)
 
 pub started_ids : (step : StepPart) (es : List ThreadNow) → thread_ids (with_started step es) ≡ thread_ids es
@@ -156,6 +160,7 @@ started_ids (Go n) es = refl
 started_ids (Return v) es = refl
 started_ids (Throwing x) es = refl
 started_ids (Prepare n) es = refl
+started_ids (Again k) es = refl
 
 pub started_length : (step : StepPart) (es : List ThreadNow) → length (with_started step es) ≡ length es
 started_length (Start n) es = length-map es _
@@ -164,25 +169,26 @@ started_length (Go n) es = refl
 started_length (Return v) es = refl
 started_length (Throwing x) es = refl
 started_length (Prepare n) es = refl
+started_length (Again k) es = refl
 
-pub stepped_step_sound : (s : State) (t : ℕ) (e : ThreadNow) (step : StepPart) → IsSound s → thread_at s t ≡ Some e → next_step s.script e ≡ Some step → length (frames_after step e.frames) ≤ FRAME_LIMIT → IsSound (stepped_by s t (Some step))
-stepped_step_sound s t e step sound found is room =
+pub stepped_step_sound : (s : State) (t place : ℕ) (e : ThreadNow) (step : StepPart) → IsSound s → thread_at s t ≡ Some e → next_step s.script e ≡ Some step → length (frames_after step e.frames) ≤ FRAME_LIMIT → IsSound (stepped_by s t place (Some step))
+stepped_step_sound s t place e step sound found is room =
     record {
       script = sound.script;
       threads = rw (length-map (with_started step s.threads) _, started_length step s.threads) sound.threads;
-      each_thread = threads_sound s t e step sound found (sound_step s.script e step sound.script is) room;
-      distinct = rw (ids_kept (after_step step) (λ e. refl) (with_started step s.threads) t, started_ids step s.threads) sound.distinct;
+      each_thread = threads_sound s t place e step sound found (sound_step s.script e step sound.script is) room;
+      distinct = rw (ids_kept (after_step place step) (λ e. refl) (with_started step s.threads) t, started_ids step s.threads) sound.distinct;
     }
 
-stepped_by_sound : (s : State) (t : ℕ) (e : ThreadNow) (p : Option StepPart) → IsSound s → thread_at s t ≡ Some e → next_step s.script e ≡ p → runs_out (happening_at s t e.frames p) ≡ false → IsSound (stepped_by s t p)
-stepped_by_sound s t e None sound found step h = sound
-stepped_by_sound s t e (Some step) sound found is h =
+stepped_by_sound : (s : State) (t place : ℕ) (e : ThreadNow) (p : Option StepPart) → IsSound s → thread_at s t ≡ Some e → next_step s.script e ≡ p → runs_out (happening_at s t e.frames p) ≡ false → IsSound (stepped_by s t place p)
+stepped_by_sound s t place e None sound found step h = sound
+stepped_by_sound s t place e (Some step) sound found is h =
     let own : ThreadNowIsSound s.script.sizes e = all_found (λ (e : ThreadNow). e.id) (ThreadNowIsSound s.script.sizes) s.threads t e sound.each_thread found in
-    stepped_step_sound s t e step sound found is (made_room s t e.frames step own.frames h)
+    stepped_step_sound s t place e step sound found is (made_room s t e.frames step own.frames h)
 
 stepped_of_sound : (s : State) (t : ℕ) (o : Option ThreadNow) → IsSound s → thread_at s t ≡ o → runs_out (happening_of s t o) ≡ false → IsSound (stepped_of s t o)
 stepped_of_sound s t None sound found h = sound
-stepped_of_sound s t (Some e) sound found h = stepped_by_sound s t e (next_step s.script e) sound found refl h
+stepped_of_sound s t (Some e) sound found h = stepped_by_sound s t (place_after s.script e) e (next_step s.script e) sound found refl h
 
 pub stepped_sound : (s : State) (t : ℕ) → IsSound s → runs_out (next s t) ≡ false → IsSound (stepped s t)
 stepped_sound s t sound h = stepped_of_sound s t (thread_at s t) sound refl h

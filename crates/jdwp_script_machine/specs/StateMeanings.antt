@@ -22,7 +22,7 @@ life_now life.Lives = Lives
 life_now life.HasEnded = HasEnded
 
 abbrev pub thread_now : ThreadState → ThreadNow
-thread_now e = record { id = e.id.0; life = life_now e.life; made = e.made; frames = map frame_now e.frames.items }
+thread_now e = record { id = e.id.0; life = life_now e.life; place = e.place; frames = map frame_now e.frames.items }
 
 abbrev pub class_now : ClassState → ClassNow
 class_now c = record { id = c.id.0; is_prepared = c.is_prepared }

@@ -2,7 +2,7 @@
 use Rattle.std.specs.Prelude.{ℕ, ℤ, ◌==◌, Bool, true, false, not, List, [], ◌∷◌, map, if◌then◌else◌, Option}
 use Rattle.std.specs.List.{list_any}
 use Rattle.jdwp_value.specs.declared.value.Value.{Value}
-use Rattle.jdwp_script.specs.Parts.{GroupPart, FieldPart, MethodPart, ClassPart, ObjectPart, StepPart, Call, Go, Return, Throwing, Prepare, Start, ThreadPart, ModulePart, ScriptPart}
+use Rattle.jdwp_script.specs.Parts.{GroupPart, FieldPart, MethodPart, ClassPart, ObjectPart, StepPart, Call, Go, Return, Throwing, Prepare, Start, Again, ThreadPart, ModulePart, ScriptPart}
 use Rattle.jdwp_value.specs.Rising.{rising}
 use Rattle.jdwp_script_machine.specs.LookUps.{with_id}
 
@@ -26,11 +26,11 @@ pub data Life : Type 0 where
   Lives : Life
   HasEnded : Life
 
--- a thread: how many of its steps were made, and its frames, the newest first
+-- a thread: the place of its next step in its list, and its frames, the newest first
 pub record ThreadNow : Type 0 where
   pub id : ℕ
   pub life : Life
-  pub made : ℕ
+  pub place : ℕ
   pub frames : List FrameNow
 
 -- a class, and whether it is prepared
@@ -106,6 +106,7 @@ starts_thread t (Go n) = false
 starts_thread t (Return v) = false
 starts_thread t (Throwing x) = false
 starts_thread t (Prepare n) = false
+starts_thread t (Again k) = false
 
 abbrev pub prepares_class : ℕ → StepPart → Bool
 prepares_class c (Prepare n) = n == c
@@ -114,11 +115,12 @@ prepares_class c (Go n) = false
 prepares_class c (Return v) = false
 prepares_class c (Throwing x) = false
 prepares_class c (Start n) = false
+prepares_class c (Again k) = false
 
 -- A thread that a step starts waits for it; the others live from the beginning.
 abbrev pub opening_thread : ScriptPart → ThreadPart → ThreadNow
 opening_thread script t =
-    record { id = t.id; life = if some_step (starts_thread t.id) script then Waits else Lives; made = 0; frames = [] }
+    record { id = t.id; life = if some_step (starts_thread t.id) script then Waits else Lives; place = 0; frames = [] }
 
 -- A class that a step prepares is unprepared until then; the others are prepared.
 abbrev pub opening_class : ScriptPart → ClassPart → ClassNow

@@ -1,5 +1,5 @@
 -- What threads do: what a step makes happen, and the state after it; the end of a thread.
-use Rattle.std.specs.Prelude.{ℕ, ◌+◌, true, List, [], ◌∷◌, map, drop, length, nat_lt, if◌then◌else◌, pos, Option, Some, None, option_map, option_and_then}
+use Rattle.std.specs.Prelude.{ℕ, ◌+◌, ◌-◌, true, List, [], ◌∷◌, map, drop, length, nat_lt, if◌then◌else◌, pos, Option, Some, None, option_map, option_and_then}
 use Rattle.std.specs.List.{slice_get}
 use Rattle.jdwp_value.specs.declared.location.Location.{Location}
 use Rattle.jdwp_value.specs.declared.location.Location.TheVariants.{Null}
@@ -9,16 +9,35 @@ use Rattle.jdwp_script.specs.declared.step.SlotValue.{SlotValue}
 use Rattle.jdwp_script.specs.declared.step.Throw.{Throw}
 use Rattle.jdwp_script.specs.Limits.{LIST_LIMIT}
 use Rattle.jdwp_script.specs.Literals.{literal_value}
-use Rattle.jdwp_script.specs.Parts.{ClassPart, ObjectPart, CallPart, StepPart, Call, Go, Return, Throwing, Prepare, Start, ThreadPart, ScriptPart}
+use Rattle.jdwp_script.specs.Parts.{ClassPart, ObjectPart, CallPart, StepPart, Call, Go, Return, Throwing, Prepare, Start, Again, ThreadPart, ScriptPart}
 use Rattle.jdwp_script_machine.specs.LookUps.{changed}
 use Rattle.jdwp_script_machine.specs.States.{SlotNow, FrameNow, Lives, HasEnded, ThreadNow, ClassNow, State, thread_at, may_begin}
 use Rattle.jdwp_script_machine.specs.Sites.{class_in, object_in, thread_in, tagged, reached, class_seen, site_in, found_location, newest_place}
 
 -- ---- the next step
 
+-- the step at this place of a thread's list
+abbrev pub step_at : ScriptPart → ℕ → ℕ → Option StepPart
+step_at script id place = option_and_then (λ (t : ThreadPart). slice_get t.steps place) (thread_in script id)
+
 -- the next step of a thread, if one is left
 abbrev pub next_step : ScriptPart → ThreadNow → Option StepPart
-next_step script e = option_and_then (λ (t : ThreadPart). slice_get t.steps e.made) (thread_in script e.id)
+next_step script e = step_at script e.id e.place
+
+-- the place at which a thread goes on that comes to this step, at this place: an `again` is no step of its own
+abbrev pub goes_on_at : Option StepPart → ℕ → ℕ
+goes_on_at None place = place
+goes_on_at (Some (Again k)) place = place - k
+goes_on_at (Some (Call c)) place = place
+goes_on_at (Some (Go index)) place = place
+goes_on_at (Some (Return v)) place = place
+goes_on_at (Some (Throwing x)) place = place
+goes_on_at (Some (Prepare c)) place = place
+goes_on_at (Some (Start t)) place = place
+
+-- the place of a thread's next step once this one is made
+abbrev pub place_after : ScriptPart → ThreadNow → ℕ
+place_after script e = goes_on_at (step_at script e.id (e.place + 1)) (e.place + 1)
 
 -- ---- frames
 
@@ -43,6 +62,7 @@ frames_after (Return v) fs = drop 1 fs
 frames_after (Throwing x) fs = fs
 frames_after (Prepare c) fs = fs
 frames_after (Start t) fs = fs
+frames_after (Again k) fs = fs
 
 -- ---- what happens
 
@@ -67,8 +87,8 @@ abbrev pub prepared : ScriptPart → ClassPart → PreparedMeaning
 prepared script c = record { tag = c.tag; id = c.id; status = pos 3; class = class_seen script c }
 
 -- What a step of a thread with these frames makes happen. None where it can't be made: it names a class, a method or an
--- object that there is not, it needs a frame and there is none, it would put one more frame than may be, or it starts a
--- thread that has begun.
+-- object that there is not, it needs a frame and there is none, it would put one more frame than may be, it starts a
+-- thread that has begun, or it is an `again`.
 abbrev pub occurrence : State → List FrameNow → StepPart → Option OccurrenceMeaning
 occurrence s fs (Call c) = if nat_lt (length fs) FRAME_LIMIT then option_map (λ p. Entered p) (newest_place s.script (called c ∷ fs)) else None
 occurrence s fs (Go index) = option_map (λ p. Moved p) (newest_place s.script (moved index fs))
@@ -76,6 +96,7 @@ occurrence s fs (Return v) = option_map (λ p. Left p (literal_value v)) (newest
 occurrence s fs (Throwing x) = threw s.script x (newest_place s.script fs) (object_in s.script x.object.0)
 occurrence s fs (Prepare c) = option_map (λ (c : ClassPart). Prepared (prepared s.script c)) (class_in s.script c)
 occurrence s fs (Start t) = if may_begin s.threads t then Some Started else None
+occurrence s fs (Again k) = None
 
 -- the thread that is named: the new one where a thread is started
 abbrev pub named_by : ℕ → StepPart → ℕ
@@ -85,6 +106,7 @@ named_by t (Go n) = t
 named_by t (Return v) = t
 named_by t (Throwing x) = t
 named_by t (Prepare n) = t
+named_by t (Again k) = t
 
 abbrev pub ran_out : ℕ → HappeningMeaning
 ran_out t = record { thread = t; occurrence = RanOut }
@@ -107,9 +129,9 @@ next s t = happening_of s t (thread_at s t)
 
 -- ---- the state after a step
 
--- the thread that made the step
-abbrev pub after_step : StepPart → ThreadNow → ThreadNow
-after_step step e = record e { made = e.made + 1; frames = frames_after step e.frames }
+-- the thread that made the step, and goes on at this place
+abbrev pub after_step : ℕ → StepPart → ThreadNow → ThreadNow
+after_step place step e = record e { place = place; frames = frames_after step e.frames }
 
 abbrev pub alive : ThreadNow → ThreadNow
 alive e = record e { life = Lives }
@@ -122,6 +144,7 @@ with_started (Go n) es = es
 with_started (Return v) es = es
 with_started (Throwing x) es = es
 with_started (Prepare n) es = es
+with_started (Again k) es = es
 
 abbrev pub ready : ClassNow → ClassNow
 ready c = record c { is_prepared = true }
@@ -134,18 +157,19 @@ with_prepared (Go n) cs = cs
 with_prepared (Return v) cs = cs
 with_prepared (Throwing x) cs = cs
 with_prepared (Start n) cs = cs
+with_prepared (Again k) cs = cs
 
-abbrev pub stepped_by : State → ℕ → Option StepPart → State
-stepped_by s t None = s
-stepped_by s t (Some step) =
+abbrev pub stepped_by : State → ℕ → ℕ → Option StepPart → State
+stepped_by s t place None = s
+stepped_by s t place (Some step) =
     record s {
-      threads = changed (λ (e : ThreadNow). e.id) t (after_step step) (with_started step s.threads);
+      threads = changed (λ (e : ThreadNow). e.id) t (after_step place step) (with_started step s.threads);
       classes = with_prepared step s.classes;
     }
 
 abbrev pub stepped_of : State → ℕ → Option ThreadNow → State
 stepped_of s t None = s
-stepped_of s t (Some e) = stepped_by s t (next_step s.script e)
+stepped_of s t (Some e) = stepped_by s t (place_after s.script e) (next_step s.script e)
 
 -- the state after the next step of a thread, if one is left
 abbrev pub stepped : State → ℕ → State

@@ -9,7 +9,7 @@ ghost use Rattle.jdwp_script_machine.specs.StateMeanings.{frame_now, thread_now,
 ghost use Rattle.jdwp_script_machine.specs.Found.{found};
 ghost use Rattle.jdwp_script_machine.specs.Sites.{site_in, site_place, newest_place};
 ghost use Rattle.jdwp_script_machine.specs.Sound.{IsSound};
-ghost use Rattle.jdwp_script_machine.specs.Steps.{next_step, moved, caught_at, occurrence, named_by, next, FRAME_LIMIT};
+ghost use Rattle.jdwp_script_machine.specs.Steps.{step_at, next_step, moved, caught_at, occurrence, named_by, next, FRAME_LIMIT};
 
 use crate::look_ups::with_id;
 use crate::sites::{class_seen, location, place, reached, site_in, tagged};
@@ -54,13 +54,22 @@ pub(crate) fn next(
 pub(crate) fn next_step<'a>(script: &'a Script, entry: &ThreadState) -> Option<&'a Step>
     ensures step { option_map step_part (found result) ≡ next_step (script_part script.now)
         (thread_now entry.now) }
-    ensures room { IfSome result (λ _. entry.now.made + 1 < 2 ^ 64) }
+    ensures room { IfSome result (λ _. entry.now.place + 1 < 2 ^ 64) }
 {
-    match with_id(&script.threads, entry.id.0) {
+    step_at(script, entry.id, entry.place)
+}
+
+/// The step at this place of a thread's list.
+pub(crate) fn step_at(script: &Script, thread: ObjectId, place: usize) -> Option<&Step>
+    ensures step { option_map step_part (found result) ≡ step_at (script_part script.now)
+        thread.0 place }
+    ensures room { IfSome result (λ _. place + 1 < 2 ^ 64) }
+{
+    match with_id(&script.threads, thread.0) {
         None => None,
         Some(thread) => {
-            if entry.made < thread.steps.len() {
-                Some(&thread.steps[entry.made])
+            if place < thread.steps.len() {
+                Some(&thread.steps[place])
             } else {
                 None
             }
@@ -107,6 +116,7 @@ fn occurrence(
         } else {
             None
         }),
+        Step::Again(_) => Ok(None),
     }
 }
 

@@ -7,7 +7,7 @@ ghost use Rattle.jdwp_script.specs.Twice.{has_id_twice};
 ghost use Rattle.jdwp_script.specs.TooWide.{has_wide_id};
 ghost use Rattle.jdwp_script.specs.Faults.{first_fault};
 ghost use Rattle.jdwp_script_machine.specs.States.{opening};
-ghost use Rattle.jdwp_script_machine.specs.Runs.{Deed, after_all, MayAllBe, CanGoOn};
+ghost use Rattle.jdwp_script_machine.specs.Runs.{Deed, after_all, MayAllBe, CanGoOn, NeverRunsOut};
 ghost use Rattle.jdwp_script_machine.specs.Sound.{IsSound};
 ghost use Rattle.jdwp_script_machine.specs.ScriptMeaning.{script_meaning};
 
@@ -27,4 +27,11 @@ pub fn scripts_begin_soundly()
 pub fn scripts_go_on()
     ensures { (live : ℕ) (script : ScriptPart) (deeds : List Deed) → first_fault live script ≡ None
         → MayAllBe (opening script) deeds → CanGoOn (after_all (opening script) deeds) }
+{}
+
+/// Whatever threads step, end or have slots written, from where a script with no fault begins: a thread that lives and whose steps end with an
+/// `again` has not run out.
+pub fn loops_go_on_for_ever()
+    ensures { (live : ℕ) (script : ScriptPart) (deeds : List Deed) → first_fault live script ≡ None
+        → MayAllBe (opening script) deeds → NeverRunsOut (after_all (opening script) deeds) }
 {}

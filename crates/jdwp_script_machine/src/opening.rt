@@ -90,7 +90,7 @@ fn opening_thread(alloc: Global, id: ObjectId, is_started: bool) -> ThreadState
     ThreadState {
         id,
         life: if is_started { Life::Waits } else { Life::Lives },
-        made: 0,
+        place: 0,
         frames: Vec::new(alloc),
     }
 }

@@ -61,8 +61,8 @@ impl Life {
 pub struct ThreadState {
     pub id: ObjectId,
     pub life: Life,
-    /// How many of its steps were made.
-    pub made: usize,
+    /// The place of its next step in its list.
+    pub place: usize,
     /// The newest first.
     pub frames: Vec<FrameState>,
 }

@@ -2,18 +2,18 @@
 ghost use Rattle.std.specs.Prelude.{◌≡◌, ℕ, ◌==◌, ◌<◌, ◌+◌, ◌^◌, false, map, drop, OnOk, OnErr, IfOk, IfSome};
 ghost use Rattle.std.specs.List.{IsDistinct};
 ghost use Rattle.jdwp_event.specs.Occurrences.{runs_out};
-ghost use Rattle.jdwp_script.specs.Meanings.{call_part, step_part};
+ghost use Rattle.jdwp_script.specs.Meanings.{call_part, script_part, step_part};
 ghost use Rattle.jdwp_script_machine.specs.LookUps.{with_id, changed, first_changed};
 ghost use Rattle.jdwp_script_machine.specs.States.{ThreadNow, ClassNow};
 ghost use Rattle.jdwp_script_machine.specs.StateMeanings.{frame_now, thread_now, class_now, state_now};
 ghost use Rattle.jdwp_script_machine.specs.StateMeanings.{slot_now as slot_state_now};
 ghost use Rattle.jdwp_script_machine.specs.Sound.{thread_ids, IsSound};
-ghost use Rattle.jdwp_script_machine.specs.Steps.{called, moved, frames_after, after_step, alive, with_started, ready, with_prepared, gone, stepped, ended, slot_now, next};
+ghost use Rattle.jdwp_script_machine.specs.Steps.{called, moved, frames_after, place_after, after_step, alive, with_started, ready, with_prepared, gone, stepped, ended, slot_now, next};
 
-use crate::happening::next_step;
+use crate::happening::{next_step, step_at};
 use crate::look_ups::with_id;
 use crate::state::{ClassState, FrameState, Life, MachineState, SlotState, ThreadState};
-use jdwp_script::{Call, SlotValue, Step};
+use jdwp_script::{Call, Script, SlotValue, Step};
 use jdwp_value::{ObjectId, ReferenceTypeId};
 use jdwp_wire::NoMemory;
 use std::alloc::Global;
@@ -39,30 +39,49 @@ pub(crate) fn step(
     let Some(step) = next_step(&state.script, entry) else {
         return Ok(());
     };
-    make(alloc, &mut state.threads, &mut state.classes, thread, step)?;
+    let place = place_after(&state.script, entry);
+    make(
+        alloc,
+        &mut state.threads,
+        &mut state.classes,
+        thread,
+        place,
+        step,
+    )?;
     Ok(())
 }
 
-/// Makes a step of a thread: in its frames, and in the thread that it starts or the class that it prepares.
+/// The place of a thread's next step once this one is made.
+fn place_after(script: &Script, entry: &ThreadState) -> usize
+    requires { entry.now.place + 1 < 2 ^ 64 }
+    ensures { result ≡ place_after (script_part script.now) (thread_now entry.now) }
+{
+    let place = entry.place + 1;
+    match step_at(script, entry.id, place) {
+        Some(Step::Again(back)) => place.saturating_sub(*back as usize),
+        _ => place,
+    }
+}
+
+/// Makes a step of a thread, which goes on at this place: in its frames, and in the thread that it starts or the class that it prepares.
 fn make(
     alloc: Global,
     threads: &mut [ThreadState],
     classes: &mut [ClassState],
     thread: ObjectId,
+    place: usize,
     step: &Step,
 ) -> Result<(), NoMemory>
-    requires distinct { IsDistinct (λ (a b : ℕ). a == b) (thread_ids (map thread_now threads.old)) }
-    requires room { IfSome (with_id (λ (e : ThreadNow). e.id) thread.0 (map thread_now threads.old))
-        (λ e. e.made + 1 < 2 ^ 64) }
+    requires { IsDistinct (λ (a b : ℕ). a == b) (thread_ids (map thread_now threads.old)) }
     ensures threads { OnOk result (map thread_now threads.new ≡ changed (λ (e : ThreadNow).
-        e.id) thread.0 (after_step (step_part step.now)) (with_started (step_part step.now)
+        e.id) thread.0 (after_step place (step_part step.now)) (with_started (step_part step.now)
         (map thread_now threads.old))) }
     ensures classes { OnOk result (map class_now classes.new ≡ with_prepared (step_part step.now)
         (map class_now classes.old)) }
     ensures err { OnErr result ((map thread_now threads.new ≡ map thread_now threads.old)
         × (classes.new ≡ classes.old)) }
 {
-    advance(alloc, threads, thread, step)?;
+    advance(alloc, threads, thread, place, step)?;
     start_by(threads, step);
     prepare_by(classes, step);
     Ok(())
@@ -75,7 +94,7 @@ fn start_by(threads: &mut [ThreadState], step: &Step)
 {
     match step {
         Step::Start(started) => start(threads, *started),
-        Step::Call(_) | Step::Go(_) | Step::Return(_) | Step::Throw(_) | Step::Prepare(_) => {}
+        _ => {}
     }
 }
 
@@ -86,27 +105,26 @@ fn prepare_by(classes: &mut [ClassState], step: &Step)
 {
     match step {
         Step::Prepare(class) => prepare(classes, *class),
-        Step::Call(_) | Step::Go(_) | Step::Return(_) | Step::Throw(_) | Step::Start(_) => {}
+        _ => {}
     }
 }
 
-/// Counts a step of the first thread with this id, and makes it in its frames.
+/// Makes a step in the frames of the first thread with this id, which goes on at this place.
 fn advance(
     alloc: Global,
     threads: &mut [ThreadState],
     thread: ObjectId,
+    place: usize,
     step: &Step,
 ) -> Result<(), NoMemory>
-    requires { IfSome (with_id (λ (e : ThreadNow). e.id) thread.0 (map thread_now threads.old))
-        (λ e. e.made + 1 < 2 ^ 64) }
     ensures ok { OnOk result (map thread_now threads.new ≡ first_changed (λ (e : ThreadNow).
-        e.id) thread.0 (after_step (step_part step.now)) (map thread_now threads.old)) }
+        e.id) thread.0 (after_step place (step_part step.now)) (map thread_now threads.old)) }
     ensures err { OnErr result (map thread_now threads.new ≡ map thread_now threads.old) }
 {
     for entry in threads.iter_mut() {
         if entry.id.0 == thread.0 {
             change_frames(alloc, &mut entry.frames, step)?;
-            entry.made += 1;
+            entry.place = place;
             return Ok(());
         }
     }
@@ -126,7 +144,7 @@ fn change_frames(alloc: Global, frames: &mut Vec<FrameState>, step: &Step) -> Re
         }
         Step::Go(index) => move_newest(frames, *index),
         Step::Return(_) => take_newest(frames),
-        Step::Throw(_) | Step::Prepare(_) | Step::Start(_) => {}
+        Step::Throw(_) | Step::Prepare(_) | Step::Start(_) | Step::Again(_) => {}
     }
     Ok(())
 }

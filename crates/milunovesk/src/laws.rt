@@ -6,5 +6,7 @@ pub use jdwp_model::{
     settles_each_command_once, settles_in_order, stands_soundly, tells_what_was_given,
     turns_close_at_ends_alone,
 };
-pub use jdwp_script_machine::laws::{scripts_are_lawful, scripts_begin_soundly, scripts_go_on};
+pub use jdwp_script_machine::laws::{
+    loops_go_on_for_ever, scripts_are_lawful, scripts_begin_soundly, scripts_go_on,
+};
 pub use jdwp_target::laws::{closes_for_a_reason, visits_what_turns};

@@ -18,11 +18,8 @@ returns-in_err-change_frames-clause-err c =
 pub returns-then-entry-thread-clause-ok : goal.returns-then-entry-thread-clause-ok
 returns-then-entry-thread-clause-ok c =
     let lt : c.loop-entry.entry-index < length c.loop-entry.threads = omega arith in
-    put_first thread_now (λ (e : ThreadNow). e.id) c.args.thread.0 (after_step (step_part c.args.step.now)) c.loop-entry.threads c.loop-entry.entry-index _ c.entry-item.result lt c.if-entry-thread.true (rw c.in_ok-change_frames.ensures.ok refl)
+    put_first thread_now (λ (e : ThreadNow). e.id) c.args.thread.0 (after_step c.args.place (step_part c.args.step.now)) c.loop-entry.threads c.loop-entry.entry-index _ c.entry-item.result lt c.if-entry-thread.true (rw c.in_ok-change_frames.ensures.ok refl)
     ∙ c.loop-entry.invariant.first
-
-pub overflow_add-entry : goal.overflow_add-entry
-overflow_add-entry c = grind (arith, common_steps)
 
 pub loop-entry-preserved : goal.loop-entry-preserved
 loop-entry-preserved c = grind (arith, common_steps)

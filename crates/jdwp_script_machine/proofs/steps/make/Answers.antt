@@ -8,4 +8,4 @@ use Rattle.jdwp_script_machine.proofs.steps.make.Goals as goal
 pub returns-clause-threads : goal.returns-clause-threads
 returns-clause-threads c =
     let step = step_part c.args.step.now in
-    c.start_by.ensures ∙ (ap (with_started step) c.in_ok-advance.ensures.ok ∙ made_then_started step c.args.thread.0 (map thread_now c.args.threads.now) c.requires.distinct)
+    c.start_by.ensures ∙ (ap (with_started step) c.in_ok-advance.ensures.ok ∙ made_then_started c.args.place step c.args.thread.0 (map thread_now c.args.threads.now) c.requires)

@@ -19,7 +19,7 @@ returns-clause-ok c =
     let few_classes : length c.make.new.classes ≡ c.args.state.now.classes.len = omega arith in
     let threads = ap (λ (xs : List ThreadState). map thread_now xs) (with_items_is c.args.state.now.threads c.make.new.threads few) ∙ rw c.deref_mut.ensures.value at c.in_ok-make.ensures.threads in
     let classes = ap (λ (xs : List ClassState). map class_now xs) (with_items_is c.args.state.now.classes c.make.new.classes few_classes) ∙ rw c.deref_mut-2.ensures.value at c.in_ok-make.ensures.classes in
-    stepped_is s c.args.thread.0 (thread_now c.in-Some.entry.now) (step_part c.in-Some-next_step.step.now) _ _ found c.in-Some-next_step.ensures.step threads classes
+    stepped_is s c.args.thread.0 c.place_after-place.result (thread_now c.in-Some.entry.now) (step_part c.in-Some-next_step.step.now) _ _ found c.in-Some-next_step.ensures.step c.place_after-place.ensures threads classes
 
 pub returns-clause-sound : goal.returns-clause-sound
 returns-clause-sound c =
