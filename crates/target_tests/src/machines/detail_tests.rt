@@ -231,7 +231,15 @@ const BAD: &str = "\"id\":6, => \"id\":0, => the group has id 0, in groups[1]
 \"id\":41, => \"id\":0, => the field has id 0, in classes[1].fields[1]
 \"group\":6,\"steps\":[] => \"group\":6,\"steps\":[[\"go\",0]] => a step without a frame, in threads[1].steps[0]
 [\"prepare\",11] => [\"prepare\",10],[\"prepare\",11],[\"prepare\",11] => the class 11 begins a second time
-[\"start\",2] => [\"start\",1],[\"start\",2],[\"start\",2] => the thread 2 begins a second time";
+[\"start\",2] => [\"start\",1],[\"start\",2],[\"start\",2] => the thread 2 begins a second time
+[\"V\",0]]] => [\"V\",0]],[\"again\",0]] => it goes back by 0 where 7 stand before it, in threads[0].steps[7]
+[\"V\",0]]] => [\"V\",0]],[\"again\",8]] => it goes back by 8 where 7 stand before it, in threads[0].steps[7]
+[\"V\",0]]] => [\"V\",0]],[\"again\",7]] => the class 11 begins a second time, in threads[0].steps[7]
+[\"V\",0]]] => [\"V\",0]],[\"again\",6]] => the thread 2 begins a second time, in threads[0].steps[7]
+[\"V\",0]]] => [\"V\",0]],[\"again\",4]] => it goes back to other frames, in threads[0].steps[7]
+[\"return\",[\"V\",0]]] => [\"again\",4]] => it goes back to other frames, in threads[0].steps[6]
+[\"V\",0]]] => [\"V\",0]],[\"again\",5],[\"prepare\",10]] => a step behind an again is never made, in threads[0].steps[8]
+\"group\":6,\"steps\":[] => \"group\":6,\"steps\":[[\"again\",1]] => it goes back by 1 where 0 stand before it, in threads[1].steps[0]";
 
 /// The row says what gives way in machine B, what comes for it and what is told behind `front`, and
 /// that is told.

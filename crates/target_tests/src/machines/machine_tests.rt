@@ -302,6 +302,56 @@ fn steps_of_each_kind(rt: HostRuntime) {
     goes_as_told(&rt, rt.alloc(), EACH_KIND, &EACH_STEP);
 }
 
+/// How the first thread of machine A goes on after its first move.
+const REST_OF_A: &str = "[\"go\",4],[\"go\",3],[\"go\",4],
+ [\"go\",3],[\"return\",[\"V\",0]]]";
+
+/// A loop of machine A: how its first thread goes on in place of that, how often it steps before the loop, and what happens in one round.
+static LOOPS: [(&str, usize, &[Act]); 2] = [
+    (
+        "[\"return\",[\"V\",0]],[\"again\",3]]",
+        0,
+        &[
+            Act::Steps(1, "1 enters 1:#10:#20:0 line 1 frames 1 LMain; 10"),
+            Act::Steps(1, "1 moves to 1:#10:#20:3 line 2 frames 1 LMain; 10"),
+            Act::Answers(
+                commands::FRAMES,
+                "01 00000000 ffffffff",
+                "[(#30, 1:#10:#20:3)]",
+            ),
+            Act::Steps(1, "1 leaves 1:#10:#20:3 line 2 frames 1 LMain; 10 with V"),
+            Act::Answers(commands::FRAMES, "01 00000000 ffffffff", "[]"),
+        ],
+    ),
+    (
+        "[\"go\",4],[\"again\",2]]",
+        1,
+        &[
+            Act::Steps(1, "1 moves to 1:#10:#20:3 line 2 frames 1 LMain; 10"),
+            Act::Steps(1, "1 moves to 1:#10:#20:4 line 3 frames 1 LMain; 10"),
+            Act::Answers(
+                commands::FRAMES,
+                "01 00000000 ffffffff",
+                "[(#30, 1:#10:#20:4)]",
+            ),
+        ],
+    ),
+];
+
+#[test]
+fn loops_that_are_gone_round(rt: HostRuntime) {
+    for (rest, before, round) in LOOPS.iter() {
+        let text = edited(&rt, rt.alloc(), MACHINE_A, REST_OF_A, rest);
+        let mut machine = machine(&rt, rt.alloc(), text.as_str());
+        for _ in 0..*before {
+            step(&rt, &mut machine, 1);
+        }
+        for _ in 0..3 {
+            run(&rt, rt.alloc(), &mut machine, round);
+        }
+    }
+}
+
 /// The one step of the machine of the diamonds.
 static A_CALL: [Act; 1] = [Act::Shows(
     1,

@@ -73,7 +73,7 @@ fn texts_that_are_no_scripts(rt: HostRuntime) {
 }
 
 /// Machine A with a small edit: what gives way, what comes for it, and the outcome.
-static SMALL_EDITS: [Edit; 6] = [
+static SMALL_EDITS: [Edit; 8] = [
     ("\"id\":2,", "\"id\":5,", Some(ScriptFault::IdTwice)),
     ("[8,8,8,8,8]", "[0,8,8,8,8]", Some(ScriptFault::IdTooWide)),
     (
@@ -81,6 +81,8 @@ static SMALL_EDITS: [Edit; 6] = [
         "[\"go\",10],[\"return\"",
         Some(ScriptFault::BadReference),
     ),
+    ("[\"V\",0]]]", "[\"V\",0]],[\"again\",7]]", None),
+    ("[\"return\",[\"V\",0]]]", "[\"again\",5]]", None),
     ("\"name\":\"A\"", "\"name\":\"A\",\"more\":[1e3]", None),
     ("\"name\":\"A\"", "\"name\":5,\"name\":\"A\"", None),
     (
@@ -218,6 +220,8 @@ static MISSING_MEMBERS: [(Member, &str); 22] = [
 [\"go\",3] => [\"jump\",3]
 [\"go\",3] => []
 [\"go\",3] => [\"go\",3,3]
+[\"go\",3] => [\"again\"]
+[\"go\",3] => [\"again\",2147483648]
 [11,20,9] => [11,20]
 [[0,[\"L\",50]]] => [[0]]",
     ),
@@ -376,6 +380,7 @@ fn step_words(rt: &impl Abort, step: &Step, text: &mut String) {
         Step::Throw(throw) => write!(text, "throw {} {:?};", throw.object.0, throw.caught),
         Step::Prepare(class) => write!(text, "prepare {};", class.0),
         Step::Start(thread) => write!(text, "start {};", thread.0),
+        Step::Again(back) => write!(text, "again {back};"),
     };
     written.expect(rt, "memory");
 }
