@@ -1,0 +1,4 @@
+pub mod TextLaws
+pub mod AskLaws
+pub mod RunLaws
+pub mod ExpectLaws
