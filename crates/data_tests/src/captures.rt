@@ -1,6 +1,5 @@
 //! Worked captures, judged and shown: tests of `jdwp_show`, which call what anybody can call.
 mod check_tests;
 mod extreme_tests;
-mod row_tests;
-mod rows;
+pub(crate) mod row_tests;
 mod show_tests;

@@ -7,6 +7,11 @@ pub(crate) fn expect_same<A: PartialEq + Debug>(rt: &impl Abort, left: &A, right
     assert_eq!(rt; *left, *right);
 }
 
+/// Fails unless it holds.
+pub(crate) fn expect_that(rt: &impl Abort, holds: bool) {
+    assert!(rt; holds);
+}
+
 /// Fails unless both are equal, and tells what was compared.
 pub(crate) fn expect_same_for<A: PartialEq + Debug, N: Debug>(
     rt: &impl Abort,
@@ -15,9 +20,4 @@ pub(crate) fn expect_same_for<A: PartialEq + Debug, N: Debug>(
     note: &N,
 ) {
     assert_eq!(rt; *left, *right, "{note:?}");
-}
-
-/// Fails unless it holds.
-pub(crate) fn expect_that(rt: &impl Abort, holds: bool) {
-    assert!(rt; holds);
 }

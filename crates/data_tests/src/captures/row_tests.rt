@@ -1,6 +1,5 @@
 //! Captures of every command, modifier and event, at several widths of ids.
 use crate::asserts::expect_same;
-use crate::captures::rows::row;
 use jdwp_layout::{
     CommandRow, Entry, Field, Item, Layout, Layouts, fields_of_event, fields_of_modifier, layout_of,
 };
@@ -11,9 +10,9 @@ use std::process::Abort;
 
 /// Data, and the words in which they are shown, each after a space.
 #[derive(Drop)]
-struct Sample {
-    bytes: Vec<u8>,
-    words: String,
+pub(crate) struct Sample {
+    pub bytes: Vec<u8>,
+    pub words: String,
 }
 
 /// A capture, and the words in which it is shown.
@@ -148,8 +147,13 @@ fn push_fields(rt: &impl Abort, fields: &[Field], sizes: &IdSizes, sample: &mut 
     say(rt, close, &mut sample.words);
 }
 
-/// Data of the layout.
-fn sample_of(rt: &impl Abort, alloc: Global, layout: &Layout, sizes: &IdSizes) -> Sample {
+/// Data of the layout: each list has two entries, and a list of modifiers or events one of each kind.
+pub(crate) fn sample_of(
+    rt: &impl Abort,
+    alloc: Global,
+    layout: &Layout,
+    sizes: &IdSizes,
+) -> Sample {
     let mut sample = Sample {
         bytes: Vec::new(alloc),
         words: String::new(alloc),
@@ -332,16 +336,24 @@ fn every_row_at(rt: &impl Abort, alloc: Global, sizes: &IdSizes) -> u32 {
     rows
 }
 
+/// Widths of fields, methods, objects, reference types and frames.
+pub(crate) static WIDTHS: [[u32; 5]; 4] = [
+    [1, 2, 3, 4, 5],
+    [8, 7, 6, 5, 4],
+    [1, 1, 1, 1, 1],
+    [8, 8, 8, 8, 8],
+];
+
+/// These widths.
+pub(crate) fn sizes_of(rt: &impl Abort, widths: &[u32; 5]) -> IdSizes {
+    let [field, method, object, reference, frame] = *widths;
+    IdSizes::new(field, method, object, reference, frame).expect(rt, "widths")
+}
+
 #[test]
 fn every_row(rt: HostRuntime) {
-    let alloc = rt.alloc();
-    for (field, method, object, reference, frame) in [
-        row((1, 2, 3, 4, 5)),
-        row((8, 7, 6, 5, 4)),
-        row((1, 1, 1, 1, 1)),
-        row((8, 8, 8, 8, 8)),
-    ] {
-        let sizes = IdSizes::new(field, method, object, reference, frame).expect(&rt, "widths");
-        expect_same(&rt, &every_row_at(&rt, alloc, &sizes), &94);
+    for widths in WIDTHS.iter() {
+        let rows = every_row_at(&rt, rt.alloc(), &sizes_of(&rt, widths));
+        expect_same(&rt, &rows, &94);
     }
 }

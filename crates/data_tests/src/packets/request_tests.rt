@@ -1,11 +1,10 @@
 //! Requests, what passes them and what is counted, by worked examples.
 use crate::asserts::{expect_same, expect_that};
 use jdwp_event::{
-    ClassSeen, Composite, EventKind, Happening, Modifier, Occurrence, Place, Policy, PreparedClass,
-    Request, RequestId, Requests, StepOrigin, ThrownException, count_down, count_gathered, gather,
-    matches,
+    ClassSeen, Composite, Happening, Modifier, Occurrence, Place, Policy, PreparedClass, Request,
+    RequestId, Requests, StepOrigin, ThrownException, count_down, count_gathered, gather, matches,
 };
-use jdwp_layout::{Datum, layout_of, write};
+use jdwp_layout::{layout_of, write};
 use jdwp_value::{
     Location, MethodId, ObjectId, ObjectTag, ReferenceTypeId, TaggedId, TypeTag, Value,
 };
@@ -17,6 +16,18 @@ use test_parts::bytes;
 const NOWHERE: StepOrigin = StepOrigin {
     frames: 0,
     line: None,
+};
+
+/// From two frames at line 2.
+const AT_LINE_2: StepOrigin = StepOrigin {
+    frames: 2,
+    line: Some(2),
+};
+
+/// From the only frame at line 1.
+const AT_LINE_1: StepOrigin = StepOrigin {
+    frames: 1,
+    line: Some(1),
 };
 
 /// An index of a method of a class.
@@ -84,43 +95,66 @@ fn thrown(rt: &impl Abort, alloc: Global, caught_at: Location) -> Happening {
     Happening::new(ObjectId(1), Occurrence::Threw(place, exception))
 }
 
-/// A request of this kind under this id.
-fn request(
-    rt: &impl Abort,
-    alloc: Global,
-    id: u8,
-    kind: EventKind,
-    policy: Policy,
-    modifiers: Vec<Modifier>,
-    origin: StepOrigin,
-) -> Request {
-    let id = RequestId::new(u32::from(id)).expect(rt, "an id");
-    let request = Request::new(alloc, id, kind.byte(), policy.byte(), modifiers, origin);
-    request.expect(rt, "memory")
-}
-
-/// Whether a request of the kind with this one modifier reports the happening.
-fn passes(
-    rt: &impl Abort,
-    alloc: Global,
-    kind: EventKind,
-    modifier: Modifier,
-    happening: &Happening,
-) -> bool {
-    let modifiers = vec![in alloc; modifier].expect(rt, "memory");
-    let request = request(rt, alloc, 1, kind, Policy::None, modifiers, NOWHERE);
-    matches(&request, happening)
-}
-
 /// The text as a `String`.
 fn text(rt: &impl Abort, alloc: Global, text: &str) -> String {
     String::from_str(alloc, text).expect(rt, "memory")
 }
 
-/// Whether a breakpoint with this modifier reports a move of thread 1.
-fn filters(rt: &impl Abort, alloc: Global, modifier: Modifier) -> bool {
-    let happening = moved(rt, alloc);
-    passes(rt, alloc, EventKind::Breakpoint, modifier, &happening)
+/// The modifier that these digits are.
+fn modifier_of(rt: &impl Abort, alloc: Global, hex: &str) -> Modifier {
+    let sizes = eight(rt);
+    let all = bytes(alloc, hex).expect(rt, "memory");
+    let (modifier, used) = Modifier::take(alloc, &all, &sizes).expect(rt, "a modifier");
+    expect_same(rt, &used, &all.len());
+    modifier
+}
+
+/// Ids of 8 bytes.
+fn eight(rt: &impl Abort) -> IdSizes {
+    IdSizes::new(8, 8, 8, 8, 8).expect(rt, "widths")
+}
+
+/// The modifiers that these digits are, with a space between two.
+fn modifiers_of(rt: &impl Abort, alloc: Global, hex: &str) -> Vec<Modifier> {
+    let mut modifiers = Vec::new(alloc);
+    for one in hex.split_whitespace() {
+        let modifier = modifier_of(rt, alloc, one);
+        modifiers.push(modifier).expect(rt, "memory");
+    }
+    modifiers
+}
+
+/// An id, the bytes of a kind and a policy, and modifiers as digits with a space between two.
+type Asked = (u32, u8, u8, &'static str);
+
+/// The request that is asked for so, whose steps are measured from there.
+fn request(rt: &impl Abort, alloc: Global, asked: &Asked, origin: StepOrigin) -> Request {
+    let (id, kind, policy, hex) = *asked;
+    let modifiers = modifiers_of(rt, alloc, hex);
+    request_with(rt, alloc, (id, kind, policy), modifiers, origin)
+}
+
+/// The request of this id, kind and policy with these modifiers.
+fn request_with(
+    rt: &impl Abort,
+    alloc: Global,
+    (id, kind, policy): (u32, u8, u8),
+    modifiers: Vec<Modifier>,
+    origin: StepOrigin,
+) -> Request {
+    let id = RequestId::new(id).expect(rt, "an id");
+    let request = Request::new(alloc, id, kind, policy, modifiers, origin);
+    request.expect(rt, "memory")
+}
+
+/// The requests that are asked for so.
+fn requests(rt: &impl Abort, alloc: Global, asked: &[Asked], origin: StepOrigin) -> Requests {
+    let mut requests = Requests::new(alloc);
+    for one in asked {
+        let request = request(rt, alloc, one, origin);
+        requests.insert(request).expect(rt, "memory");
+    }
+    requests
 }
 
 /// Modifiers as bytes where ids have 8, and whether they pass it: Count, Conditional, ThreadOnly, ClassOnly, LocationOnly, FieldOnly,
@@ -146,31 +180,18 @@ const FILTERS: &str = "01.00000001 true
 
 #[test]
 fn modifiers_are_filters(rt: HostRuntime) {
+    let here = moved(&rt, rt.alloc());
     for row in FILTERS.lines() {
-        let (hex, wanted) = row.split_once(' ').expect(&rt, "a row");
-        let modifier = modifier_of(&rt, rt.alloc(), hex);
-        let found = filters(&rt, rt.alloc(), modifier);
-        expect_same(&rt, &found, &(wanted == "true"));
+        filters(&rt, rt.alloc(), row, &here);
     }
 }
 
-/// The modifier that these digits are.
-fn modifier_of(rt: &impl Abort, alloc: Global, hex: &str) -> Modifier {
-    let sizes = IdSizes::new(8, 8, 8, 8, 8).expect(rt, "widths");
-    let all = bytes(alloc, hex).expect(rt, "memory");
-    let (modifier, used) = Modifier::take(alloc, &all, &sizes).expect(rt, "a modifier");
-    expect_same(rt, &used, &all.len());
-    modifier
-}
-
-/// Whether a class of this name in the dotted form passes, of class java.lang.Main.
-fn matches_class(rt: &impl Abort, alloc: Global, pattern: &str) -> bool {
-    filters(rt, alloc, Modifier::ClassMatch(text(rt, alloc, pattern)))
-}
-
-/// The same of a pattern that is to be excluded.
-fn excludes_class(rt: &impl Abort, alloc: Global, pattern: &str) -> bool {
-    filters(rt, alloc, Modifier::ClassExclude(text(rt, alloc, pattern)))
+/// A breakpoint with the modifier of a row reports this, or does not, as the row says.
+fn filters(rt: &impl Abort, alloc: Global, row: &str, what: &Happening) {
+    let (hex, wanted) = row.split_once(' ').expect(rt, "a row");
+    let modifiers = modifiers_of(rt, alloc, hex);
+    let request = request_with(rt, alloc, (1, 2, 0), modifiers, NOWHERE);
+    expect_same(rt, &matches(&request, what), &(wanted == "true"));
 }
 
 /// Whether a pattern passes the class java.lang.Main.
@@ -185,129 +206,137 @@ static PATTERNS: [(bool, &str); 8] = [
     (false, "a.java.lang.Main"),
 ];
 
+/// Whether a breakpoint passes at the class java.lang.Main whose class has to match the pattern, or is not to match it.
+fn passes_class(rt: &impl Abort, alloc: Global, pattern: &str, excludes: bool) -> bool {
+    let pattern = text(rt, alloc, pattern);
+    let modifier = if excludes {
+        Modifier::ClassExclude(pattern)
+    } else {
+        Modifier::ClassMatch(pattern)
+    };
+    let modifiers = vec![in alloc; modifier].expect(rt, "memory");
+    let request = request_with(rt, alloc, (1, 2, 0), modifiers, NOWHERE);
+    matches(&request, &moved(rt, alloc))
+}
+
 #[test]
 fn patterns_are_filters(rt: HostRuntime) {
     for &(wanted, pattern) in PATTERNS.iter() {
-        expect_same(&rt, &matches_class(&rt, rt.alloc(), pattern), &wanted);
+        let found = passes_class(&rt, rt.alloc(), pattern, false);
+        expect_same(&rt, &found, &wanted);
     }
-    expect_same(&rt, &excludes_class(&rt, rt.alloc(), "javax.*"), &true);
-    expect_same(&rt, &excludes_class(&rt, rt.alloc(), "java.*"), &false);
+    expect_that(&rt, passes_class(&rt, rt.alloc(), "javax.*", true));
+    expect_that(&rt, !passes_class(&rt, rt.alloc(), "java.*", true));
 }
 
-/// The class, whether caught ones and uncaught ones are to pass; whether a caught one passes, and an uncaught one.
-static EXCEPTIONS: [(u64, bool, bool, bool, bool); 6] = [
-    (0, true, false, true, false),
-    (0, false, true, false, true),
-    (30, true, true, true, true),
-    (31, true, true, true, true),
-    (10, true, true, false, false),
-    (30, false, false, false, false),
+/// An ExceptionOnly: the class, whether caught ones and uncaught ones are to pass. Whether a caught one passes, and an uncaught one.
+static EXCEPTIONS: [(Asked, bool, bool); 6] = [
+    ((1, 4, 0, "08.0000000000000000.01.00"), true, false),
+    ((1, 4, 0, "08.0000000000000000.00.01"), false, true),
+    ((1, 4, 0, "08.000000000000001e.01.01"), true, true),
+    ((1, 4, 0, "08.000000000000001f.01.01"), true, true),
+    ((1, 4, 0, "08.000000000000000a.01.01"), false, false),
+    ((1, 4, 0, "08.000000000000001e.00.00"), false, false),
 ];
 
 #[test]
 fn exceptions_pass_by_class_and_by_whether_they_are_caught(rt: HostRuntime) {
-    for &(class, caught, uncaught, wanted, other) in EXCEPTIONS.iter() {
-        let is_caught = passes_only(&rt, rt.alloc(), class, caught, uncaught, at(10, 20, 9));
-        expect_same(&rt, &is_caught, &wanted);
-        let is_uncaught = passes_only(&rt, rt.alloc(), class, caught, uncaught, Location::Null);
-        expect_same(&rt, &is_uncaught, &other);
+    let caught = thrown(&rt, rt.alloc(), at(10, 20, 9));
+    let uncaught = thrown(&rt, rt.alloc(), Location::Null);
+    for (asked, wanted, other) in EXCEPTIONS.iter() {
+        let request = request(&rt, rt.alloc(), asked, NOWHERE);
+        let found = (matches(&request, &caught), matches(&request, &uncaught));
+        expect_same(&rt, &found, &(*wanted, *other));
     }
 }
 
-/// Whether an exception that is caught there passes, which has to be of this class, caught ones or not, uncaught ones or not.
-fn passes_only(
-    rt: &impl Abort,
-    alloc: Global,
-    class: u64,
-    caught: bool,
-    uncaught: bool,
-    caught_at: Location,
-) -> bool {
-    let only = Modifier::ExceptionOnly {
-        class: ReferenceTypeId(class),
-        caught,
-        uncaught,
-    };
-    let happening = thrown(rt, alloc, caught_at);
-    passes(rt, alloc, EventKind::Exception, only, &happening)
-}
-
-/// A request of steps of this size and depth, from two frames at line 2.
-fn step_request(rt: &impl Abort, alloc: Global, size: i32, depth: i32) -> Request {
-    let step = Modifier::Step {
-        thread: ObjectId(1),
-        size,
-        depth,
-    };
-    let origin = StepOrigin {
-        frames: 2,
-        line: Some(2),
-    };
-    let modifiers = vec![in alloc; step].expect(rt, "memory");
-    let kind = EventKind::SingleStep;
-    request(rt, alloc, 1, kind, Policy::None, modifiers, origin)
-}
-
-/// Whether it reports a move to this line with so many frames.
-fn step_passes(
-    rt: &impl Abort,
-    alloc: Global,
-    size: i32,
-    depth: i32,
-    frames: u32,
-    line: Option<u32>,
-) -> bool {
-    let request = step_request(rt, alloc, size, depth);
-    matches(&request, &moved_to(rt, alloc, 1, 4, line, frames))
-}
-
-/// From two frames at line 2: the size, the depth, the frames now, the line now, and whether the step passes.
-static STEPS: [(i32, i32, u32, Option<u32>, bool); 12] = [
-    (0, 0, 3, Some(2), true),
-    (1, 0, 3, Some(2), true),
-    (1, 0, 2, Some(2), false),
-    (1, 0, 2, Some(3), true),
-    (1, 0, 2, None, true),
-    (0, 1, 2, Some(2), true),
-    (0, 1, 3, Some(3), false),
-    (1, 1, 1, Some(2), true),
-    (0, 2, 2, Some(3), false),
-    (0, 2, 1, Some(3), true),
-    (2, 0, 1, Some(3), false),
-    (0, 3, 1, Some(3), false),
+/// From two frames at line 2, a Step of thread 1: its size and depth. The frames now, the line now, and whether the step passes.
+static STEPS: [(Asked, u32, Option<u32>, bool); 12] = [
+    (
+        (1, 1, 0, "0a.0000000000000001.00000000.00000000"),
+        3,
+        Some(2),
+        true,
+    ),
+    (
+        (1, 1, 0, "0a.0000000000000001.00000001.00000000"),
+        3,
+        Some(2),
+        true,
+    ),
+    (
+        (1, 1, 0, "0a.0000000000000001.00000001.00000000"),
+        2,
+        Some(2),
+        false,
+    ),
+    (
+        (1, 1, 0, "0a.0000000000000001.00000001.00000000"),
+        2,
+        Some(3),
+        true,
+    ),
+    (
+        (1, 1, 0, "0a.0000000000000001.00000001.00000000"),
+        2,
+        None,
+        true,
+    ),
+    (
+        (1, 1, 0, "0a.0000000000000001.00000000.00000001"),
+        2,
+        Some(2),
+        true,
+    ),
+    (
+        (1, 1, 0, "0a.0000000000000001.00000000.00000001"),
+        3,
+        Some(3),
+        false,
+    ),
+    (
+        (1, 1, 0, "0a.0000000000000001.00000001.00000001"),
+        1,
+        Some(2),
+        true,
+    ),
+    (
+        (1, 1, 0, "0a.0000000000000001.00000000.00000002"),
+        2,
+        Some(3),
+        false,
+    ),
+    (
+        (1, 1, 0, "0a.0000000000000001.00000000.00000002"),
+        1,
+        Some(3),
+        true,
+    ),
+    (
+        (1, 1, 0, "0a.0000000000000001.00000002.00000000"),
+        1,
+        Some(3),
+        false,
+    ),
+    (
+        (1, 1, 0, "0a.0000000000000001.00000000.00000003"),
+        1,
+        Some(3),
+        false,
+    ),
 ];
 
 #[test]
 fn steps_pass_by_size_and_depth(rt: HostRuntime) {
-    for &(size, depth, frames, line, wanted) in STEPS.iter() {
-        let found = step_passes(&rt, rt.alloc(), size, depth, frames, line);
-        expect_same(&rt, &found, &wanted);
+    for (asked, frames, line, wanted) in STEPS.iter() {
+        let request = request(&rt, rt.alloc(), asked, AT_LINE_2);
+        let there = moved_to(&rt, rt.alloc(), 1, 4, *line, *frames);
+        expect_same(&rt, &matches(&request, &there), wanted);
     }
 }
 
-/// This request alone.
-fn requests_of(rt: &impl Abort, alloc: Global, request: Request) -> Requests {
-    let mut requests = Requests::new(alloc);
-    requests.insert(request).expect(rt, "memory");
-    requests
-}
-
-/// Requests of steps over calls in lines of thread 1, from line 1 in its only frame.
-fn steps_over(rt: &impl Abort, alloc: Global) -> Requests {
-    let step = Modifier::Step {
-        thread: ObjectId(1),
-        size: 1,
-        depth: 1,
-    };
-    let modifiers = vec![in alloc; step].expect(rt, "memory");
-    let origin = StepOrigin {
-        frames: 1,
-        line: Some(1),
-    };
-    let kind = EventKind::SingleStep;
-    let request = request(rt, alloc, 1, kind, Policy::None, modifiers, origin);
-    requests_of(rt, alloc, request)
-}
+/// Steps over calls in lines of thread 1.
+const STEPS_OVER: [Asked; 1] = [(1, 1, 0, "0a.0000000000000001.00000001.00000001")];
 
 /// Whether a move to this line with so many frames is reported; then it is counted.
 fn reports_move(
@@ -336,7 +365,7 @@ static MOVES: [(u32, u32, bool); 4] = [(2, 1, true), (7, 2, false), (2, 1, false
 
 #[test]
 fn a_step_over_a_call_begins_where_it_last_reported(rt: HostRuntime) {
-    let mut requests = steps_over(&rt, rt.alloc());
+    let mut requests = requests(&rt, rt.alloc(), &STEPS_OVER, AT_LINE_1);
     for &(line, frames, wanted) in MOVES.iter() {
         let found = reports_move(&rt, rt.alloc(), &mut requests, line, frames);
         expect_same(&rt, &found, &wanted);
@@ -345,43 +374,10 @@ fn a_step_over_a_call_begins_where_it_last_reported(rt: HostRuntime) {
 }
 
 /// Breakpoints at a Count of 2: that of the request 1 stands before the thread, and that of the request 2 behind it.
-fn counted(rt: &impl Abort, alloc: Global) -> Requests {
-    let mut requests = Requests::new(alloc);
-    let first = both(
-        rt,
-        alloc,
-        Modifier::Count(2),
-        Modifier::ThreadOnly(ObjectId(1)),
-    );
-    insert_breakpoint(rt, alloc, &mut requests, 1, Policy::None, first);
-    let second = both(
-        rt,
-        alloc,
-        Modifier::ThreadOnly(ObjectId(1)),
-        Modifier::Count(2),
-    );
-    insert_breakpoint(rt, alloc, &mut requests, 2, Policy::None, second);
-    requests
-}
-
-/// The two modifiers, in this order.
-fn both(rt: &impl Abort, alloc: Global, first: Modifier, second: Modifier) -> Vec<Modifier> {
-    vec![in alloc; first, second].expect(rt, "memory")
-}
-
-/// Adds a breakpoint with these modifiers under this id.
-fn insert_breakpoint(
-    rt: &impl Abort,
-    alloc: Global,
-    requests: &mut Requests,
-    id: u8,
-    policy: Policy,
-    modifiers: Vec<Modifier>,
-) {
-    let kind = EventKind::Breakpoint;
-    let request = request(rt, alloc, id, kind, policy, modifiers, NOWHERE);
-    requests.insert(request).expect(rt, "memory");
-}
+const COUNTS: [Asked; 2] = [
+    (1, 2, 0, "01.00000002 03.0000000000000001"),
+    (2, 2, 0, "03.0000000000000001 01.00000002"),
+];
 
 /// A move of a thread is reported by this request alone, or by none; then it is counted.
 fn is_reported_by(
@@ -411,7 +407,7 @@ static COUNTED: [(u64, Option<u32>); 4] = [(2, None), (1, Some(1)), (1, Some(2))
 
 #[test]
 fn a_count_that_was_reached_is_counted_though_a_later_modifier_fails(rt: HostRuntime) {
-    let mut requests = counted(&rt, rt.alloc());
+    let mut requests = requests(&rt, rt.alloc(), &COUNTS, NOWHERE);
     for &(thread, wanted) in COUNTED.iter() {
         is_reported_by(&rt, rt.alloc(), &mut requests, thread, wanted);
     }
@@ -424,28 +420,15 @@ fn told(rt: &impl Abort, alloc: Global, requests: &Requests, what: &Happening) -
     found.expect(rt, "a composite")
 }
 
-/// One request of this kind under this id, without modifiers.
-fn one_request(rt: &impl Abort, alloc: Global, id: u8, kind: EventKind) -> Requests {
-    let mut requests = Requests::new(alloc);
-    add_plain(rt, alloc, &mut requests, id, kind);
-    requests
-}
-
 /// The data of a composite as hexadecimal digits.
 fn digits(rt: &impl Abort, alloc: Global, composite: Composite) -> String {
     let data = composite.into_data(alloc).expect(rt, "memory");
-    let bytes = composite_bytes(rt, alloc, data.items());
-    hexadecimal(rt, alloc, &bytes)
-}
-
-/// The data of a composite as bytes, where ids have 8 bytes.
-fn composite_bytes(rt: &impl Abort, alloc: Global, items: &[Datum]) -> Vec<u8> {
-    let row = layout_of(64, 100).expect(rt, "a row");
-    let layouts = row.layouts.expect(rt, "layouts");
-    let sizes = IdSizes::new(8, 8, 8, 8, 8).expect(rt, "widths");
+    let layouts = layout_of(64, 100).expect(rt, "a row").layouts;
+    let layout = layouts.expect(rt, "layouts").request;
     let mut bytes = Vec::new(alloc);
-    write(&layouts.request, &sizes, items, &mut bytes).expect(rt, "the data are written");
-    bytes
+    let wrote = write(&layout, &eight(rt), data.items(), &mut bytes);
+    wrote.expect(rt, "the data are written");
+    hexadecimal(rt, alloc, &bytes)
 }
 
 /// The bytes as hexadecimal digits.
@@ -457,97 +440,75 @@ fn hexadecimal(rt: &impl Abort, alloc: Global, bytes: &[u8]) -> String {
     text
 }
 
-/// Adds a breakpoint of one place under this id.
-fn add_breakpoint(rt: &impl Abort, alloc: Global, requests: &mut Requests, id: u8, policy: Policy) {
-    let modifiers = vec![in alloc; Modifier::LocationOnly(at(10, 20, 3))];
-    let modifiers = modifiers.expect(rt, "memory");
-    insert_breakpoint(rt, alloc, requests, id, policy, modifiers);
-}
-
-/// What breakpoints of one place under the requests 2 and 1 report.
-fn told_together(rt: &impl Abort, alloc: Global) -> Composite {
-    let mut requests = Requests::new(alloc);
-    add_breakpoint(rt, alloc, &mut requests, 2, Policy::All);
-    add_breakpoint(rt, alloc, &mut requests, 1, Policy::None);
-    told(rt, alloc, &requests, &moved(rt, alloc))
-}
+/// Breakpoints of one place under the requests 2 and 1, with the policies ALL and NONE.
+const TOGETHER: [Asked; 2] = [
+    (
+        2,
+        2,
+        2,
+        "07.01.000000000000000a.0000000000000014.0000000000000003",
+    ),
+    (
+        1,
+        2,
+        0,
+        "07.01.000000000000000a.0000000000000014.0000000000000003",
+    ),
+];
 
 #[test]
 fn two_requests_report_together(rt: HostRuntime) {
-    let alloc = rt.alloc();
-    let composite = told_together(&rt, alloc);
+    let requests = requests(&rt, rt.alloc(), &TOGETHER, NOWHERE);
+    let composite = told(&rt, rt.alloc(), &requests, &moved(&rt, rt.alloc()));
     expect_same(&rt, &composite.policy(), &2);
     expect_same(&rt, &composite.events().len(), &2);
-    expect_same(
+    are_digits(
         &rt,
-        &digits(&rt, alloc, composite).as_str(),
-        &"0200000002\
+        rt.alloc(),
+        composite,
+        "0200000002\
          0200000001000000000000000101000000000000000a00000000000000140000000000000003\
          0200000002000000000000000101000000000000000a00000000000000140000000000000003",
     );
 }
 
-/// Adds a request of this kind under this id, without modifiers.
-fn add_plain(rt: &impl Abort, alloc: Global, requests: &mut Requests, id: u8, kind: EventKind) {
-    let none = Vec::new(alloc);
-    let request = request(rt, alloc, id, kind, Policy::None, none, NOWHERE);
-    requests.insert(request).expect(rt, "memory");
+/// The data of a composite are these digits.
+fn are_digits(rt: &impl Abort, alloc: Global, composite: Composite, wanted: &str) {
+    let found = digits(rt, alloc, composite);
+    expect_same(rt, &found.as_str(), &wanted);
 }
 
 /// Requests under the ids 1 to 3, of which the last replaces another kind.
-fn three_requests(rt: &impl Abort, alloc: Global) -> Requests {
-    let mut requests = Requests::new(alloc);
-    add_plain(rt, alloc, &mut requests, 3, EventKind::Breakpoint);
-    add_plain(rt, alloc, &mut requests, 1, EventKind::ThreadStart);
-    add_plain(rt, alloc, &mut requests, 2, EventKind::Breakpoint);
-    add_plain(rt, alloc, &mut requests, 3, EventKind::ThreadDeath);
-    requests
-}
+const THREE: [Asked; 4] = [(3, 2, 0, ""), (1, 6, 0, ""), (2, 2, 0, ""), (3, 7, 0, "")];
 
-/// The id and the kind of the request at a place.
-fn id_and_kind(requests: &Requests, place: usize) -> Option<(u32, u8)> {
-    match requests.as_slice().get(place) {
-        Some(request) => Some((request.id(), request.kind())),
-        None => None,
+/// Whether these are the ids and the kinds of the requests.
+fn are_kept(requests: &Requests, wanted: &[(u32, u8)]) -> bool {
+    for (request, (id, kind)) in requests.as_slice().iter().zip(wanted) {
+        if request.id() != *id || request.kind() != *kind {
+            return false;
+        }
     }
+    requests.len() == wanted.len() && requests.is_empty() == wanted.is_empty()
 }
 
+/// They are kept by rising id, and removed by kind and id, all breakpoints at once, and all.
 #[test]
-fn requests_are_kept_by_rising_id(rt: HostRuntime) {
-    let requests = three_requests(&rt, rt.alloc());
-    expect_same(&rt, &requests.len(), &3);
-    expect_same(&rt, &id_and_kind(&requests, 0), &Some((1, 6)));
-    expect_same(&rt, &id_and_kind(&requests, 1), &Some((2, 2)));
-    expect_same(&rt, &id_and_kind(&requests, 2), &Some((3, 7)));
-}
-
-#[test]
-fn requests_are_removed(rt: HostRuntime) {
-    expect_that(&rt, Requests::new(rt.alloc()).is_empty());
-    let mut requests = three_requests(&rt, rt.alloc());
+fn requests_are_kept_and_removed(rt: HostRuntime) {
+    expect_that(&rt, are_kept(&Requests::new(rt.alloc()), &[]));
+    let mut requests = requests(&rt, rt.alloc(), &THREE, NOWHERE);
+    expect_that(&rt, are_kept(&requests, &[(1, 6), (2, 2), (3, 7)]));
     requests.remove(2, 3);
-    expect_same(&rt, &requests.len(), &3);
+    expect_that(&rt, are_kept(&requests, &[(1, 6), (2, 2), (3, 7)]));
     requests.remove(7, 3);
-    expect_same(&rt, &requests.len(), &2);
+    expect_that(&rt, are_kept(&requests, &[(1, 6), (2, 2)]));
     requests.remove_breakpoints();
-    expect_same(&rt, &requests.len(), &1);
-    let first = requests.as_slice().first().map(Request::id);
-    expect_same(&rt, &first, &Some(1));
+    expect_that(&rt, are_kept(&requests, &[(1, 6)]));
     requests.clear();
-    expect_that(&rt, requests.is_empty());
+    expect_that(&rt, are_kept(&requests, &[]));
 }
 
 /// A breakpoint of thread 1 at its second time.
-fn second_of_a_thread(rt: &impl Abort, alloc: Global) -> Request {
-    let modifiers = both(
-        rt,
-        alloc,
-        Modifier::ThreadOnly(ObjectId(1)),
-        Modifier::Count(2),
-    );
-    let kind = EventKind::Breakpoint;
-    request(rt, alloc, 1, kind, Policy::None, modifiers, NOWHERE)
-}
+const SECOND: Asked = (1, 2, 0, "03.0000000000000001 01.00000002");
 
 /// The thread that a modifier names.
 fn thread_of(modifier: Option<&Modifier>) -> Option<ObjectId> {
@@ -575,7 +536,7 @@ fn has_both(rt: &impl Abort, request: &Request) {
 
 #[test]
 fn modifiers_are_kept_in_the_order_sent(rt: HostRuntime) {
-    has_both(&rt, &second_of_a_thread(&rt, rt.alloc()));
+    has_both(&rt, &request(&rt, rt.alloc(), &SECOND, NOWHERE));
 }
 
 /// Something that thread 1 does, which a request of this kind reports.
@@ -607,20 +568,6 @@ fn there(kind: u8, place: Place) -> Occurrence {
     }
 }
 
-/// The data of what one request of this kind byte under id 9, of policy EVENT_THREAD and without modifiers, reports.
-fn reported_by_byte(rt: &impl Abort, alloc: Global, kind: u8) -> String {
-    let requests = request_of_byte(rt, alloc, kind);
-    let what = Happening::new(ObjectId(1), occurrence(rt, alloc, kind));
-    digits(rt, alloc, told(rt, alloc, &requests, &what))
-}
-
-/// The one request of this kind byte.
-fn request_of_byte(rt: &impl Abort, alloc: Global, kind: u8) -> Requests {
-    let id = RequestId::new(9).expect(rt, "an id");
-    let request = Request::new(alloc, id, kind, 1, Vec::new(alloc), NOWHERE);
-    requests_of(rt, alloc, request.expect(rt, "memory"))
-}
-
 /// The byte of each kind, and its data behind the thread.
 static KINDS: [(u8, &str); 8] = [
     (1, "01000000000000000a00000000000000140000000000000003"),
@@ -636,11 +583,13 @@ static KINDS: [(u8, &str); 8] = [
     (7, ""),
 ];
 
-/// What a request of this kind byte reports has these data behind the thread.
+/// What the request 9 of this kind, of policy EVENT_THREAD and without modifiers, reports has these data behind the thread.
 fn has_data(rt: &impl Abort, alloc: Global, kind: u8, wanted: &str) {
-    let text = reported_by_byte(rt, alloc, kind);
+    let requests = requests(rt, alloc, &[(9, kind, 1, "")], NOWHERE);
+    let what = Happening::new(ObjectId(1), occurrence(rt, alloc, kind));
     let all = format!(in alloc; "0100000001{kind:02x}000000090000000000000001{wanted}");
-    expect_same(rt, &text, &all.expect(rt, "memory"));
+    let all = all.expect(rt, "memory");
+    are_digits(rt, alloc, told(rt, alloc, &requests, &what), all.as_str());
 }
 
 #[test]
@@ -650,39 +599,26 @@ fn each_kind_has_its_data(rt: HostRuntime) {
     }
 }
 
-/// The data of what one request of this kind under id 9, without modifiers, reports of this.
-fn reported(rt: &impl Abort, alloc: Global, kind: EventKind, what: Happening) -> String {
-    let requests = one_request(rt, alloc, 9, kind);
-    digits(rt, alloc, told(rt, alloc, &requests, &what))
-}
-
 #[test]
 fn an_exception_has_its_data(rt: HostRuntime) {
+    let requests = requests(&rt, rt.alloc(), &[(9, 4, 0, "")], NOWHERE);
     let happening = thrown(&rt, rt.alloc(), Location::Null);
-    let text = reported(&rt, rt.alloc(), EventKind::Exception, happening);
-    expect_same(
+    are_digits(
         &rt,
-        &text.as_str(),
-        &"000000000104000000090000000000000001\
+        rt.alloc(),
+        told(&rt, rt.alloc(), &requests, &happening),
+        "000000000104000000090000000000000001\
          01000000000000000a000000000000001400000000000000034c0000000000000007\
          00000000000000000000000000000000000000000000000000",
     );
 }
 
+/// The machine starts and dies.
 #[test]
-fn the_machine_starts(rt: HostRuntime) {
+fn the_machine_has_its_data(rt: HostRuntime) {
     let start = Composite::vm_start(rt.alloc(), Policy::None, ObjectId(1));
-    let found = digits(&rt, rt.alloc(), start.expect(&rt, "memory"));
-    expect_same(
-        &rt,
-        &found.as_str(),
-        &"00000000015a000000000000000000000001",
-    );
-}
-
-#[test]
-fn the_machine_dies(rt: HostRuntime) {
+    let wanted = "00000000015a000000000000000000000001";
+    are_digits(&rt, rt.alloc(), start.expect(&rt, "memory"), wanted);
     let death = Composite::vm_death(rt.alloc()).expect(&rt, "memory");
-    let found = digits(&rt, rt.alloc(), death);
-    expect_same(&rt, &found.as_str(), &"00000000016300000000");
+    are_digits(&rt, rt.alloc(), death, "00000000016300000000");
 }

@@ -67,11 +67,6 @@ static THREADS: [Act; 19] = [
     ),
 ];
 
-#[test]
-fn answers_of_threads(rt: HostRuntime) {
-    goes_as_told(&rt, rt.alloc(), OBJECTS, &THREADS);
-}
-
 static FRAMES: [Act; 16] = [
     Act::Goes(1),
     Act::Goes(1),
@@ -124,11 +119,6 @@ static FRAMES: [Act; 16] = [
     ),
 ];
 
-#[test]
-fn answers_of_frames(rt: HostRuntime) {
-    goes_as_told(&rt, rt.alloc(), OBJECTS, &FRAMES);
-}
-
 /// Of objects and strings.
 static ANSWERS_OF_OBJECTS: [Act; 12] = [
     Act::Goes(1),
@@ -168,12 +158,6 @@ static ANSWERS_OF_GROUPS: [Act; 16] = [
     Act::Answers(commands::GROUP_PARENT, "01", "error 11"),
     Act::Answers(commands::GROUP_CHILDREN, "05", "[#1] [#6]"),
 ];
-
-#[test]
-fn answers_of_objects_and_groups(rt: HostRuntime) {
-    goes_as_told(&rt, rt.alloc(), OBJECTS, &ANSWERS_OF_OBJECTS);
-    goes_as_told(&rt, rt.alloc(), OBJECTS, &ANSWERS_OF_GROUPS);
-}
 
 static WHOLE: [Act; 14] = [
     Act::Answers(
@@ -236,11 +220,6 @@ static WHOLE: [Act; 14] = [
     Act::AnswersAs(commands::VERSION, "", commands::NEW_ARRAY, "error 99"),
 ];
 
-#[test]
-fn answers_of_the_machine(rt: HostRuntime) {
-    goes_as_told(&rt, rt.alloc(), CLASSES, &WHOLE);
-}
-
 static ANSWERS_OF_CLASSES: [Act; 27] = [
     Act::Answers(commands::SIGNATURE, "0b", "\"LMain;\""),
     Act::Answers(commands::SIGNATURE, "0d", "error 21"),
@@ -298,11 +277,6 @@ static ANSWERS_OF_CLASSES: [Act; 27] = [
     ),
 ];
 
-#[test]
-fn answers_of_classes(rt: HostRuntime) {
-    goes_as_told(&rt, rt.alloc(), CLASSES, &ANSWERS_OF_CLASSES);
-}
-
 static STATIC_FIELDS: [Act; 9] = [
     Act::Answers(commands::GET_STATICS, "0b 00000002 2a 28", "[Z:1, I:7]"),
     Act::Answers(commands::GET_STATICS, "0b 00000002 28 28", "[I:7, I:7]"),
@@ -324,11 +298,6 @@ static STATIC_FIELDS: [Act; 9] = [
         "error 21",
     ),
 ];
-
-#[test]
-fn values_of_static_fields(rt: HostRuntime) {
-    goes_as_told(&rt, rt.alloc(), CLASSES, &STATIC_FIELDS);
-}
 
 static METHODS: [Act; 11] = [
     Act::Answers(commands::LINE_TABLE, "0b 15", "0 9 [(0, 5), (3, 6)]"),
@@ -357,7 +326,23 @@ static METHODS: [Act; 11] = [
     ),
 ];
 
+/// Each session: the script of its machine, and its acts.
+fn sessions() -> [(&'static str, &'static [Act]); 8] {
+    [
+        (OBJECTS, &THREADS),
+        (OBJECTS, &FRAMES),
+        (OBJECTS, &ANSWERS_OF_OBJECTS),
+        (OBJECTS, &ANSWERS_OF_GROUPS),
+        (CLASSES, &WHOLE),
+        (CLASSES, &ANSWERS_OF_CLASSES),
+        (CLASSES, &STATIC_FIELDS),
+        (CLASSES, &METHODS),
+    ]
+}
+
 #[test]
-fn answers_of_methods(rt: HostRuntime) {
-    goes_as_told(&rt, rt.alloc(), CLASSES, &METHODS);
+fn each_session_goes_as_told(rt: HostRuntime) {
+    for (script, acts) in sessions() {
+        goes_as_told(&rt, rt.alloc(), script, acts);
+    }
 }

@@ -1,10 +1,9 @@
 //! Machines of scripts: their threads, their steps, and the faults of their texts.
-use crate::asserts::{expect_same, expect_same_for};
+use crate::asserts::{expect_same, expect_same_for, expect_that};
 use crate::machines::data_words::{push_location, push_scalar, text_of};
-use crate::machines::layout_tests::request_of;
 use crate::machines::script_tests::edited;
 use jdwp_event::{ClassSeen, Happening, Occurrence, Place, PreparedClass, ThrownException};
-use jdwp_layout::{Answer, Data, Scalar, read};
+use jdwp_layout::{Answer, Data, Scalar, layout_of, read};
 use jdwp_machine::{Machine, Query, has_run_out, is_among};
 use jdwp_script::{Member, ScriptFault};
 use jdwp_script_machine::ScriptMachine;
@@ -219,7 +218,7 @@ fn is_shown(rt: &impl Abort, alloc: Global, machine: &ScriptMachine, thread: u64
 /// Of the act comes what it says.
 fn carry_out(rt: &impl Abort, alloc: Global, machine: &mut ScriptMachine, act: &Act) {
     match *act {
-        Act::Lives(ids) => assert!(rt; live_are(machine, ids)),
+        Act::Lives(ids) => expect_that(rt, live_are(machine, ids)),
         Act::Shows(thread, wanted) => is_shown(rt, alloc, machine, thread, wanted),
         Act::Steps(thread, wanted) => {
             is_shown(rt, alloc, machine, thread, wanted);
@@ -270,11 +269,6 @@ static STEPS_OF_A: [Act; 14] = [
     Act::Lives(&[]),
 ];
 
-#[test]
-fn machine_a_steps(rt: HostRuntime) {
-    goes_as_told(&rt, rt.alloc(), MACHINE_A, &STEPS_OF_A);
-}
-
 /// A step of each kind.
 static EACH_STEP: [Act; 9] = [
     Act::Lives(&[1]),
@@ -296,11 +290,6 @@ static EACH_STEP: [Act; 9] = [
     ),
     Act::Shows(1, "1 has run out"),
 ];
-
-#[test]
-fn steps_of_each_kind(rt: HostRuntime) {
-    goes_as_told(&rt, rt.alloc(), EACH_KIND, &EACH_STEP);
-}
 
 /// How the first thread of machine A goes on after its first move.
 const REST_OF_A: &str = "[\"go\",4],[\"go\",3],[\"go\",4],
@@ -358,11 +347,6 @@ static A_CALL: [Act; 1] = [Act::Shows(
     "1 enters 1:#11:#20:0 no line frames 1 LMain; 11 12 13 14 15 16",
 )];
 
-#[test]
-fn classes_reached_by_many_ways(rt: HostRuntime) {
-    goes_as_told(&rt, rt.alloc(), DIAMONDS, &A_CALL);
-}
-
 /// The query of a command, whose data are read as those of the command of the row.
 pub(crate) fn query_of(
     rt: &impl Abort,
@@ -373,7 +357,8 @@ pub(crate) fn query_of(
 ) -> Query {
     let sizes = IdSizes::new(1, 1, 1, 1, 1).expect(rt, "widths");
     let bytes = bytes(alloc, data).expect(rt, "memory");
-    let layout = request_of(rt, row);
+    let layouts = layout_of(row.0, row.1).expect(rt, "a row").layouts;
+    let layout = layouts.expect(rt, "a row with layouts").request;
     let items = read(alloc, &layout, &sizes, &bytes).expect(rt, "the data are read");
     Query {
         set: command.0,
@@ -468,11 +453,6 @@ static SLOTS: [Act; 13] = [
     Act::Answers(commands::GET_SLOTS, "01 1f 00000001 00000000 49", "[I:8]"),
 ];
 
-#[test]
-fn slots_that_are_written(rt: HostRuntime) {
-    goes_as_told(&rt, rt.alloc(), OBJECTS, &SLOTS);
-}
-
 /// The fault by which the text is refused, or none.
 fn fault(alloc: Global, text: &str) -> Option<ScriptFault> {
     match ScriptMachine::read(alloc, text) {
@@ -509,14 +489,31 @@ fn texts_that_are_refused(rt: HostRuntime) {
 fn one_thread_too_many(rt: HostRuntime) {
     let one = Limits::new(2048, 1, 1, 1).expect(&rt, "limits");
     let read = ScriptMachine::read_with(rt.alloc(), MACHINE_A, &one);
-    assert!(rt; matches!(read, Err(ScriptFault::OverLimit)));
+    expect_that(&rt, matches!(read, Err(ScriptFault::OverLimit)));
 }
 
 #[test]
 fn threads_that_are_listed(rt: HostRuntime) {
     let live = [ObjectId(2), ObjectId(1)];
-    assert!(rt; is_among(ObjectId(1), &live));
-    assert!(rt; is_among(ObjectId(2), &live));
-    assert!(rt; !is_among(ObjectId(3), &live));
-    assert!(rt; !is_among(ObjectId(1), &live[..1]));
+    expect_that(&rt, is_among(ObjectId(1), &live));
+    expect_that(&rt, is_among(ObjectId(2), &live));
+    expect_that(&rt, !is_among(ObjectId(3), &live));
+    expect_that(&rt, !is_among(ObjectId(1), &live[..1]));
+}
+
+/// Each session: the script of its machine, and its acts.
+fn sessions() -> [(&'static str, &'static [Act]); 4] {
+    [
+        (MACHINE_A, &STEPS_OF_A),
+        (EACH_KIND, &EACH_STEP),
+        (DIAMONDS, &A_CALL),
+        (OBJECTS, &SLOTS),
+    ]
+}
+
+#[test]
+fn each_session_goes_as_told(rt: HostRuntime) {
+    for (script, acts) in sessions() {
+        goes_as_told(&rt, rt.alloc(), script, acts);
+    }
 }

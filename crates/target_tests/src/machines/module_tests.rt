@@ -375,11 +375,6 @@ static ANSWERS: [Act; 24] = [
     Act::AnswersAs(commands::MODULE_NAME, "06", (18, 3), "error 99"),
 ];
 
-#[test]
-fn answers_of_modules(rt: HostRuntime) {
-    goes_as_told(&rt, rt.alloc(), MODULES, &ANSWERS);
-}
-
 /// A script without modules has none.
 static NO_ANSWERS: [Act; 4] = [
     Act::Answers(commands::ALL_MODULES, "", "[]"),
@@ -388,7 +383,14 @@ static NO_ANSWERS: [Act; 4] = [
     Act::Answers(commands::MODULE_CLASS_LOADER, "00", "error 42"),
 ];
 
+/// Each session: the script of its machine, and its acts.
+fn sessions() -> [(&'static str, &'static [Act]); 2] {
+    [(MODULES, &ANSWERS), (MACHINE_A, &NO_ANSWERS)]
+}
+
 #[test]
-fn answers_without_modules(rt: HostRuntime) {
-    goes_as_told(&rt, rt.alloc(), MACHINE_A, &NO_ANSWERS);
+fn each_session_goes_as_told(rt: HostRuntime) {
+    for (script, acts) in sessions() {
+        goes_as_told(&rt, rt.alloc(), script, acts);
+    }
 }

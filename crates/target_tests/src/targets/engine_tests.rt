@@ -3,96 +3,516 @@ ghost use Rattle.std.specs.Prelude.{◌≤◌};
 
 use crate::asserts::{expect_same, expect_same_for, expect_that};
 use crate::targets::serving::{
-    ANSWERS, ANSWERS_SUSPENDED, AfterServing, Event, Plan, ROUNDS, Reader, SESSION, UNDISTURBED,
-    Writer, is_served, reading, serve_on, served, served_on, writing,
+    ANSWERS, ANSWERS_SUSPENDED, AfterServing, Event, Plan, ROUNDS, SESSION, UNDISTURBED, Writer,
+    reading, serve_on, served_on, writing,
 };
 use crate::targets::sessions::{Target, target};
 use jdwp_end::Ended;
 use std::alloc::Global;
-use std::io::BufWriter;
+use std::io::{BufWriter, Write};
 use std::process::Abort;
 use test_parts::MACHINE_A;
 
-/// Opens a target, and serves the session on it.
-fn serve_while_open(
-    rt: &impl Abort,
-    alloc: Global,
-    target: &mut Target,
-) -> AfterServing<'static, Writer> {
-    if !target.accept() {
-        panic!(rt; "a session begins");
+/// A first session of machine A, and what is to come of it.
+#[derive(Clone, Copy)]
+struct Serving {
+    /// Whether every thread starts suspended.
+    start_all: bool,
+    /// What comes, and how many bytes of it.
+    input: &'static [u8],
+    comes: usize,
+    /// How many bytes a call of the reader moves at most, and one of the writer.
+    most: (usize, usize),
+    read: Plan,
+    write: Plan,
+    flush: Plan,
+    /// Whether the writer keeps what it is given until it is flushed.
+    keeps: bool,
+    rounds: u64,
+    ended: Ended,
+    /// How many bytes are written of those that are answered to the session, and which behind them.
+    written: usize,
+    behind: &'static [u8],
+    /// How often the reader is called, how often the writer is, and how often it is flushed, where that is compared.
+    reads: Option<u32>,
+    writes: Option<u32>,
+    flushes: Option<u32>,
+    /// Whether the session is open behind it, and the count of thread 1 then, where that is compared.
+    stands: Option<(bool, Option<u32>)>,
+}
+
+/// The session, at once, where no thread is suspended: it is done.
+const ONE: Serving = Serving {
+    start_all: false,
+    input: &SESSION,
+    comes: usize::MAX,
+    most: (66, 5000),
+    read: UNDISTURBED,
+    write: UNDISTURBED,
+    flush: UNDISTURBED,
+    keeps: false,
+    rounds: ROUNDS,
+    ended: Ended::Done,
+    written: 111,
+    behind: &[],
+    reads: None,
+    writes: None,
+    flushes: None,
+    stands: None,
+};
+
+/// The same where every thread starts suspended.
+const SUSPENDED: Serving = Serving {
+    start_all: true,
+    ..ONE
+};
+
+/// How a session went, but for its writer.
+#[derive(Clone, Copy)]
+struct Course {
+    ended: Ended,
+    reads: u32,
+    stands: (bool, Option<u32>),
+}
+
+fn way_of<W>(session: &AfterServing<'_, W>) -> Course {
+    Course {
+        ended: session.ended,
+        reads: session.reader.calls,
+        stands: (session.is_open, session.count),
     }
-    let reader = reading(&SESSION, 66, UNDISTURBED);
-    let writer = writing(alloc, 5000, UNDISTURBED);
-    serve_on(target, reader, writer, ROUNDS)
 }
 
-/// Serves the session on a target that is open already.
-fn served_while_open(rt: &impl Abort, alloc: Global) -> AfterServing<'static, Writer> {
-    let mut target = target(rt, alloc, MACHINE_A, false, 65535);
-    serve_while_open(rt, alloc, &mut target)
+/// Whether it is this, where that is compared.
+fn is_number(found: u32, wanted: Option<u32>) -> bool {
+    match wanted {
+        Some(wanted) => found == wanted,
+        None => true,
+    }
 }
 
-/// Serves the handshake for so many rounds, and the whole session behind it for none.
-fn serve_twice(
-    alloc: Global,
-    target: &mut Target,
-    rounds: u64,
-) -> (AfterServing<'static, Writer>, AfterServing<'static, Writer>) {
-    let reader = reading(&SESSION[..14], 66, UNDISTURBED);
-    let writer = writing(alloc, 5000, UNDISTURBED);
-    let first = serve_on(target, reader, writer, rounds);
-    let reader = reading(&SESSION, 66, UNDISTURBED);
-    let writer = writing(alloc, 5000, UNDISTURBED);
-    (first, serve_on(target, reader, writer, 0))
+/// Whether it stands so, where that is compared.
+fn stands_so(found: (bool, Option<u32>), wanted: Option<(bool, Option<u32>)>) -> bool {
+    match wanted {
+        Some(wanted) => found == wanted,
+        None => true,
+    }
 }
 
-/// The same of a new target.
-fn served_twice(
-    rt: &impl Abort,
-    alloc: Global,
-    rounds: u64,
-) -> (AfterServing<'static, Writer>, AfterServing<'static, Writer>) {
-    let mut target = target(rt, alloc, MACHINE_A, false, 65535);
-    serve_twice(alloc, &mut target, rounds)
-}
-
-/// Whether every thread starts suspended, and how many bytes a call moves at most.
-static CUTS: [(bool, usize); 7] = [
-    (true, 1),
-    (true, 2),
-    (true, 13),
-    (true, 66),
-    (true, 5000),
-    (false, 66),
-    (false, 5000),
-];
-
-/// What a target answers to the session, where every thread starts suspended or none does.
-fn answers_of(start_all: bool) -> &'static [u8] {
-    if start_all {
+/// These are the bytes that a session is to write.
+fn is_written(rt: &impl Abort, bytes: &[u8], serving: &Serving) {
+    let answers = if serving.start_all {
         &ANSWERS_SUSPENDED
     } else {
         &ANSWERS
+    };
+    let (front, behind) = bytes.split_at(serving.written.min(bytes.len()));
+    expect_same(rt, &front, &&answers[..serving.written.min(111)]);
+    expect_same(rt, &behind, &serving.behind);
+}
+
+/// A session went as it was to go.
+fn goes_as_said(rt: &impl Abort, session: Course, writer: &Writer, serving: &Serving, note: usize) {
+    expect_same_for(rt, &session.ended, &serving.ended, &note);
+    is_written(rt, &writer.bytes, serving);
+    let is = is_number(session.reads, serving.reads)
+        && is_number(writer.calls, serving.writes)
+        && is_number(writer.flushes, serving.flushes)
+        && stands_so(session.stands, serving.stands);
+    expect_same_for(rt, &is, &true, &note);
+}
+
+/// Serves a session on this writer.
+fn serve_one<W: Write + Drop>(
+    rt: &impl Abort,
+    alloc: Global,
+    serving: &Serving,
+    writer: W,
+) -> AfterServing<'static, W> {
+    let input = &serving.input[..serving.comes.min(serving.input.len())];
+    let reader = reading(input, serving.most.0, serving.read);
+    served_on(rt, alloc, serving.start_all, reader, writer, serving.rounds)
+}
+
+/// A session goes as it is to go.
+fn goes(rt: &impl Abort, alloc: Global, serving: &Serving, note: usize) {
+    let mut writer = writing(alloc, serving.most.1, serving.write);
+    writer.flush_plan = serving.flush;
+    if serving.keeps {
+        let writer = BufWriter::new(alloc, writer).expect(rt, "memory");
+        let session = serve_one(rt, alloc, serving, writer);
+        goes_as_said(
+            rt,
+            way_of(&session),
+            session.writer.get_ref(),
+            serving,
+            note,
+        );
+    } else {
+        let session = serve_one(rt, alloc, serving, writer);
+        goes_as_said(rt, way_of(&session), &session.writer, serving, note);
     }
 }
 
-/// A target that starts every thread suspended answers however the session is cut. Where none is suspended the threads step once all
-/// that was read is handled, and so the session is read whole.
+/// EventRequest.Set of breakpoints at index 3 under the ids 2 and 3.
+const TWO_BREAKPOINTS: &[u8] = b"JDWP-Handshake\
+        \x00\x00\x00\x2b\x00\x00\x00\x02\x00\x0f\x01\x02\x00\x00\x00\x00\x01\x07\x01\
+        \x00\x00\x00\x00\x00\x00\x00\x0a\x00\x00\x00\x00\x00\x00\x00\x14\x00\x00\x00\x00\x00\x00\x00\x03\
+        \x00\x00\x00\x2b\x00\x00\x00\x03\x00\x0f\x01\x02\x02\x00\x00\x00\x01\x07\x01\
+        \x00\x00\x00\x00\x00\x00\x00\x0a\x00\x00\x00\x00\x00\x00\x00\x14\x00\x00\x00\x00\x00\x00\x00\x03";
+
+/// What is sent for them, and as they are reached.
+const BREAKPOINTS_TOLD: &[u8] = b"\x00\x00\x00\x0f\x00\x00\x00\x02\x80\x00\x00\x00\x00\x00\x01\
+        \x00\x00\x00\x0f\x00\x00\x00\x03\x80\x00\x00\x00\x00\x00\x02\
+        \x00\x00\x00\x5c\x00\x00\x00\x02\x00\x40\x64\x02\x00\x00\x00\x02\
+        \x02\x00\x00\x00\x01\x00\x00\x00\x00\x00\x00\x00\x01\x01\
+        \x00\x00\x00\x00\x00\x00\x00\x0a\x00\x00\x00\x00\x00\x00\x00\x14\x00\x00\x00\x00\x00\x00\x00\x03\
+        \x02\x00\x00\x00\x02\x00\x00\x00\x00\x00\x00\x00\x01\x01\
+        \x00\x00\x00\x00\x00\x00\x00\x0a\x00\x00\x00\x00\x00\x00\x00\x14\x00\x00\x00\x00\x00\x00\x00\x03";
+
+static SERVED: [Serving; 43] = [
+    // A target that starts every thread suspended answers however the session is cut. Where none is suspended the threads step once all
+    // that was read is handled, and so the session is read whole.
+    Serving {
+        most: (1, 1),
+        ..SUSPENDED
+    },
+    Serving {
+        most: (2, 2),
+        ..SUSPENDED
+    },
+    Serving {
+        most: (13, 13),
+        ..SUSPENDED
+    },
+    Serving {
+        most: (66, 66),
+        ..SUSPENDED
+    },
+    Serving {
+        most: (5000, 5000),
+        ..SUSPENDED
+    },
+    Serving {
+        most: (66, 66),
+        ..ONE
+    },
+    Serving {
+        most: (5000, 5000),
+        ..ONE
+    },
+    // Each write may fail.
+    Serving {
+        most: (1, 5000),
+        write: Plan {
+            call: 1,
+            event: Event::Fails,
+        },
+        ended: Ended::LostByWrite,
+        written: 0,
+        ..SUSPENDED
+    },
+    Serving {
+        most: (1, 5000),
+        write: Plan {
+            call: 1,
+            event: Event::Stops,
+        },
+        ended: Ended::LostByWrite,
+        written: 0,
+        ..SUSPENDED
+    },
+    Serving {
+        most: (1, 5000),
+        write: Plan {
+            call: 2,
+            event: Event::Fails,
+        },
+        ended: Ended::LostByWrite,
+        written: 43,
+        ..SUSPENDED
+    },
+    Serving {
+        most: (1, 5000),
+        write: Plan {
+            call: 2,
+            event: Event::Stops,
+        },
+        ended: Ended::LostByWrite,
+        written: 43,
+        ..SUSPENDED
+    },
+    Serving {
+        most: (1, 5000),
+        write: Plan {
+            call: 3,
+            event: Event::Fails,
+        },
+        ended: Ended::LostByWrite,
+        written: 74,
+        ..SUSPENDED
+    },
+    Serving {
+        most: (1, 5000),
+        write: Plan {
+            call: 3,
+            event: Event::Stops,
+        },
+        ended: Ended::LostByWrite,
+        written: 74,
+        ..SUSPENDED
+    },
+    Serving {
+        most: (1, 5000),
+        write: Plan {
+            call: 4,
+            event: Event::Fails,
+        },
+        ended: Ended::LostByWrite,
+        written: 85,
+        ..SUSPENDED
+    },
+    Serving {
+        most: (1, 5000),
+        write: Plan {
+            call: 4,
+            event: Event::Stops,
+        },
+        ended: Ended::LostByWrite,
+        written: 85,
+        ..SUSPENDED
+    },
+    Serving {
+        most: (1, 5000),
+        write: Plan {
+            call: 5,
+            event: Event::Fails,
+        },
+        ended: Ended::LostByWrite,
+        written: 100,
+        ..SUSPENDED
+    },
+    Serving {
+        most: (1, 5000),
+        write: Plan {
+            call: 5,
+            event: Event::Stops,
+        },
+        ended: Ended::LostByWrite,
+        written: 100,
+        ..SUSPENDED
+    },
+    Serving {
+        most: (1, 5000),
+        write: Plan {
+            call: 6,
+            event: Event::Fails,
+        },
+        ..SUSPENDED
+    },
+    Serving {
+        most: (1, 5000),
+        write: Plan {
+            call: 6,
+            event: Event::Stops,
+        },
+        ..SUSPENDED
+    },
+    // A call that is interrupted is made again.
+    Serving {
+        most: (20, 5000),
+        read: Plan {
+            call: 1,
+            event: Event::Interrupted,
+        },
+        write: Plan {
+            call: 1,
+            event: Event::Interrupted,
+        },
+        ..SUSPENDED
+    },
+    Serving {
+        most: (20, 5000),
+        read: Plan {
+            call: 2,
+            event: Event::Interrupted,
+        },
+        write: Plan {
+            call: 2,
+            event: Event::Interrupted,
+        },
+        ..SUSPENDED
+    },
+    Serving {
+        most: (20, 5000),
+        read: Plan {
+            call: 5,
+            event: Event::Interrupted,
+        },
+        write: Plan {
+            call: 5,
+            event: Event::Interrupted,
+        },
+        ..SUSPENDED
+    },
+    // The first flush stands before the one read, and the second at the end. One that was interrupted is made again.
+    Serving {
+        flush: Plan {
+            call: 1,
+            event: Event::Fails,
+        },
+        ended: Ended::LostByWrite,
+        written: 0,
+        flushes: Some(2),
+        ..ONE
+    },
+    Serving {
+        flush: Plan {
+            call: 2,
+            event: Event::Fails,
+        },
+        ended: Ended::LostByWrite,
+        flushes: Some(2),
+        ..ONE
+    },
+    Serving {
+        flush: Plan {
+            call: 3,
+            event: Event::Fails,
+        },
+        flushes: Some(2),
+        ..ONE
+    },
+    Serving {
+        flush: Plan {
+            call: 1,
+            event: Event::Interrupted,
+        },
+        flushes: Some(3),
+        ..ONE
+    },
+    Serving {
+        flush: Plan {
+            call: 2,
+            event: Event::Interrupted,
+        },
+        flushes: Some(3),
+        ..ONE
+    },
+    // What was written leaves the writer's own buffer at the end, and in few writes.
+    Serving {
+        keeps: true,
+        writes: Some(1),
+        ..ONE
+    },
+    // Bytes that begin no message are refused.
+    Serving {
+        input: b"JDWP-HandshakE",
+        most: (5000, 5000),
+        ended: Ended::Refused(4),
+        written: 0,
+        ..ONE
+    },
+    Serving {
+        input: b"JDWP-Handshake\x00\x00\x00\x0a",
+        most: (5000, 5000),
+        ended: Ended::Refused(1),
+        written: 43,
+        ..ONE
+    },
+    Serving {
+        input: b"JDWP-Handshake\x00\x01\x00\x01",
+        most: (5000, 5000),
+        ended: Ended::Refused(2),
+        written: 43,
+        ..ONE
+    },
+    Serving {
+        input: b"JDWP-Handshake\x00\x00\x00\x0b\x00\x00\x00\x01\x01",
+        most: (5000, 5000),
+        ended: Ended::Refused(3),
+        written: 43,
+        ..ONE
+    },
+    // Commands that there are not are answered.
+    Serving {
+        input: b"JDWP-Handshake\x00\x00\x00\x0b\x00\x00\x00\x05\x00\x40\x64\x00\x00\x00\x0b\x00\x00\x00\x06\x00\x01\x63",
+        most: (5000, 5000),
+        ended: Ended::LostByRead,
+        written: 43,
+        behind: b"\x00\x00\x00\x0b\x00\x00\x00\x05\x80\x00\x63\x00\x00\x00\x0b\x00\x00\x00\x06\x80\x00\x63",
+        ..SUSPENDED
+    },
+    // An empty input is lost.
+    Serving {
+        input: b"",
+        most: (5000, 5000),
+        ended: Ended::LostByRead,
+        written: 0,
+        ..ONE
+    },
+    // One read and five turns take six rounds.
+    Serving {
+        rounds: 0,
+        ended: Ended::TurnLimit,
+        written: 0,
+        ..ONE
+    },
+    Serving {
+        rounds: 1,
+        ended: Ended::TurnLimit,
+        written: 0,
+        ..ONE
+    },
+    Serving {
+        rounds: 2,
+        ended: Ended::TurnLimit,
+        written: 43,
+        ..ONE
+    },
+    Serving {
+        rounds: 3,
+        ended: Ended::TurnLimit,
+        written: 74,
+        ..ONE
+    },
+    Serving {
+        rounds: 4,
+        ended: Ended::TurnLimit,
+        written: 85,
+        ..ONE
+    },
+    Serving {
+        rounds: 5,
+        ended: Ended::TurnLimit,
+        written: 100,
+        ..ONE
+    },
+    Serving { rounds: 6, ..ONE },
+    // A loss lowers the counts.
+    Serving {
+        comes: 36,
+        ended: Ended::LostByRead,
+        written: 85,
+        stands: Some((false, Some(0))),
+        ..SUSPENDED
+    },
+    // Breakpoints at index 3 are requested twice, with the policies NONE and ALL. Both Sets are handled before a thread steps; then thread
+    // 1 calls and comes there, both requests report it in one composite, and nobody steps any more.
+    Serving {
+        input: TWO_BREAKPOINTS,
+        most: (5000, 5000),
+        ended: Ended::LostByRead,
+        written: 43,
+        behind: BREAKPOINTS_TOLD,
+        ..ONE
+    },
+];
+
 #[test]
-fn a_session_is_answered(rt: HostRuntime) {
-    for (start_all, most) in CUTS.iter() {
-        is_served(
-            &rt,
-            rt.alloc(),
-            *start_all,
-            reading(&SESSION, *most, UNDISTURBED),
-            writing(rt.alloc(), *most, UNDISTURBED),
-            ROUNDS,
-            Ended::Done,
-            answers_of(*start_all),
-            most,
-        );
+fn sessions_are_served(rt: HostRuntime) {
+    for (place, serving) in SERVED.iter().enumerate() {
+        goes(&rt, rt.alloc(), serving, place);
     }
 }
 
@@ -115,197 +535,72 @@ fn written_after(read: u32) -> usize
     }
 }
 
-/// The session where this comes at a call of the reader, which gives one byte a call.
-fn is_read_until(rt: &impl Abort, alloc: Global, call: u32, event: Event) {
-    let written = written_after(call.saturating_sub(1));
-    let want = if call < 67 {
-        Ended::LostByRead
-    } else {
-        Ended::Done
-    };
-    is_served(
-        rt,
-        alloc,
-        true,
-        reading(&SESSION, 1, Plan { call, event }),
-        writing(alloc, 5000, UNDISTURBED),
-        ROUNDS,
-        want,
-        &ANSWERS_SUSPENDED[..written],
-        &(event, call),
-    );
+/// The session where this comes at a call of the reader, which gives one byte a call. Every thread starts suspended.
+fn read_until(call: u32, event: Event) -> Serving {
+    Serving {
+        most: (1, 5000),
+        read: Plan { call, event },
+        ended: if call < 67 {
+            Ended::LostByRead
+        } else {
+            Ended::Done
+        },
+        written: written_after(call.saturating_sub(1)),
+        ..SUSPENDED
+    }
 }
 
 #[test]
 fn each_read_may_fail(rt: HostRuntime) {
     for call in 1u32..68 {
-        is_read_until(&rt, rt.alloc(), call, Event::Fails);
-        is_read_until(&rt, rt.alloc(), call, Event::Stops);
+        goes(&rt, rt.alloc(), &read_until(call, Event::Fails), 0);
+        goes(&rt, rt.alloc(), &read_until(call, Event::Stops), 1);
     }
 }
 
-/// The session where this comes at a call of the writer; so many bytes are written before it.
-fn is_written_until(rt: &impl Abort, alloc: Global, call: u32, event: Event, written: usize) {
-    let want = if call < 6 {
-        Ended::LostByWrite
-    } else {
-        Ended::Done
-    };
-    is_served(
-        rt,
-        alloc,
-        true,
-        reading(&SESSION, 1, UNDISTURBED),
-        writing(alloc, 5000, Plan { call, event }),
-        ROUNDS,
-        want,
-        &ANSWERS_SUSPENDED[..written.min(111)],
-        &(event, call),
-    );
-}
-
-/// Calls of the writer, and how many bytes are written before each.
-static WRITES: [(u32, usize); 6] = [(1, 0), (2, 43), (3, 74), (4, 85), (5, 100), (6, 111)];
-
-#[test]
-fn each_write_may_fail(rt: HostRuntime) {
-    for (call, written) in WRITES.iter() {
-        is_written_until(&rt, rt.alloc(), *call, Event::Fails, *written);
-        is_written_until(&rt, rt.alloc(), *call, Event::Stops, *written);
+/// The session where this call of a writer fails, which takes one byte a call.
+fn written_until(call: u32) -> Serving {
+    let event = Event::Fails;
+    Serving {
+        most: (66, 1),
+        write: Plan { call, event },
+        ended: if call < 112 {
+            Ended::LostByWrite
+        } else {
+            Ended::Done
+        },
+        written: (call as usize).saturating_sub(1).min(111),
+        ..ONE
     }
 }
 
 #[test]
 fn each_write_of_a_byte_may_fail(rt: HostRuntime) {
     for call in 1u32..113 {
-        let event = Event::Fails;
-        let want = if call < 112 {
-            Ended::LostByWrite
-        } else {
-            Ended::Done
-        };
-        let written = (call as usize).saturating_sub(1).min(111);
-        is_served(
-            &rt,
-            rt.alloc(),
-            false,
-            reading(&SESSION, 66, UNDISTURBED),
-            writing(rt.alloc(), 1, Plan { call, event }),
-            ROUNDS,
-            want,
-            &ANSWERS[..written],
-            &call,
-        );
+        goes(&rt, rt.alloc(), &written_until(call), 0);
     }
 }
 
-#[test]
-fn an_interrupted_call_is_repeated(rt: HostRuntime) {
-    for call in [1u32, 2, 5] {
-        let event = Event::Interrupted;
-        is_served(
-            &rt,
-            rt.alloc(),
-            true,
-            reading(&SESSION, 20, Plan { call, event }),
-            writing(rt.alloc(), 5000, Plan { call, event }),
-            ROUNDS,
-            Ended::Done,
-            &ANSWERS_SUSPENDED,
-            &call,
-        );
-    }
-}
-
-/// The session where the reader would have to wait at this call, which is its last.
-fn would_block(rt: &impl Abort, alloc: Global, call: u32) {
-    let event = Event::WouldBlock;
-    let reader = reading(&SESSION, 20, Plan { call, event });
-    let writer = writing(alloc, 5000, UNDISTURBED);
-    let session = served_on(rt, alloc, true, reader, writer, ROUNDS);
-    expect_same_for(rt, &session.ended, &Ended::LostByRead, &call);
-    expect_same(rt, &session.reader.calls, &call);
-}
+/// How many bytes are written before the reader would have to wait at this call, which is its last.
+static WAITS: [(u32, usize); 3] = [(1, 0), (2, 43), (4, 100)];
 
 /// Only a call that was interrupted is made again.
 #[test]
 fn a_read_that_would_block_is_a_failed_read(rt: HostRuntime) {
-    for call in [1u32, 2, 4] {
-        would_block(&rt, rt.alloc(), call);
+    for &(call, written) in WAITS.iter() {
+        let serving = Serving {
+            most: (20, 5000),
+            read: Plan {
+                call,
+                event: Event::WouldBlock,
+            },
+            ended: Ended::LostByRead,
+            written,
+            reads: Some(call),
+            ..SUSPENDED
+        };
+        goes(&rt, rt.alloc(), &serving, 0);
     }
-}
-
-/// A writer whose flush of this number does this.
-fn flushing_until(alloc: Global, call: u32, event: Event) -> Writer {
-    let mut writer = writing(alloc, 5000, UNDISTURBED);
-    writer.flush_plan = Plan { call, event };
-    writer
-}
-
-/// The number of the flush that is disturbed, what it does, how the session ends, how many bytes are written, and how often the writer is
-/// flushed. The first flush stands before the one read, and the second at the end. One that was interrupted is made again.
-static FLUSHES: [(u32, Event, Ended, usize, u32); 5] = [
-    (1, Event::Fails, Ended::LostByWrite, 0, 2),
-    (2, Event::Fails, Ended::LostByWrite, 111, 2),
-    (3, Event::Fails, Ended::Done, 111, 2),
-    (1, Event::Interrupted, Ended::Done, 111, 3),
-    (2, Event::Interrupted, Ended::Done, 111, 3),
-];
-
-/// The session where a flush is disturbed so.
-fn is_flushed_until(
-    rt: &impl Abort,
-    alloc: Global,
-    (call, event, want, written, flushes): (u32, Event, Ended, usize, u32),
-) {
-    let reader = reading(&SESSION, 66, UNDISTURBED);
-    let writer = flushing_until(alloc, call, event);
-    let session = served_on(rt, alloc, false, reader, writer, ROUNDS);
-    expect_same_for(rt, &session.ended, &want, &call);
-    let answers = &ANSWERS[..written.min(111)];
-    expect_same_for(rt, &session.writer.bytes.as_slice(), &answers, &call);
-    expect_same_for(rt, &session.writer.flushes, &flushes, &call);
-}
-
-#[test]
-fn a_failed_flush_is_a_failed_write(rt: HostRuntime) {
-    for row in FLUSHES.iter() {
-        is_flushed_until(&rt, rt.alloc(), *row);
-    }
-}
-
-/// Serves a session whose writer keeps what it is given until it is flushed, and which these bytes leave.
-fn leaves(
-    rt: &impl Abort,
-    alloc: Global,
-    start_all: bool,
-    reader: Reader<'_>,
-    want: Ended,
-    answers: &[u8],
-    calls: u32,
-) {
-    let writer = BufWriter::new(alloc, writing(alloc, 5000, UNDISTURBED)).expect(rt, "memory");
-    has_left(
-        rt,
-        &served_on(rt, alloc, start_all, reader, writer, ROUNDS),
-        want,
-        answers,
-        calls,
-    );
-}
-
-/// The session ended so, and these bytes left the writer in so many calls.
-fn has_left(
-    rt: &impl Abort,
-    session: &AfterServing<'_, BufWriter<Writer>>,
-    want: Ended,
-    answers: &[u8],
-    calls: u32,
-) {
-    expect_same_for(rt, &session.ended, &want, &calls);
-    let writer = session.writer.get_ref();
-    expect_same_for(rt, &writer.bytes.as_slice(), &answers, &calls);
-    expect_same(rt, &writer.calls, &calls);
 }
 
 /// How many writes leave before the reader's call of this number.
@@ -327,25 +622,13 @@ fn writes_before(call: u32) -> u32 {
 #[test]
 fn answers_leave_before_a_read(rt: HostRuntime) {
     for call in 1u32..67 {
-        let event = Event::Fails;
-        let written = written_after(call.saturating_sub(1));
-        leaves(
-            &rt,
-            rt.alloc(),
-            true,
-            reading(&SESSION, 1, Plan { call, event }),
-            Ended::LostByRead,
-            &ANSWERS_SUSPENDED[..written],
-            writes_before(call),
-        );
+        let serving = Serving {
+            keeps: true,
+            writes: Some(writes_before(call)),
+            ..read_until(call, Event::Fails)
+        };
+        goes(&rt, rt.alloc(), &serving, 0);
     }
-}
-
-/// What was written leaves the writer's own buffer at the end, and in few writes.
-#[test]
-fn answers_leave_at_the_end_in_one_write(rt: HostRuntime) {
-    let reader = reading(&SESSION, 66, UNDISTURBED);
-    leaves(&rt, rt.alloc(), false, reader, Ended::Done, &ANSWERS, 1);
 }
 
 /// The handshake, and a packet of 65,536 bytes.
@@ -381,6 +664,26 @@ fn reads_are_of_what_there_is_room_for(rt: HostRuntime) {
     asks_for_what_has_room(&rt, &session);
 }
 
+/// Opens a target, and serves the session on it.
+fn serve_while_open(
+    rt: &impl Abort,
+    alloc: Global,
+    target: &mut Target,
+) -> AfterServing<'static, Writer> {
+    if !target.accept() {
+        panic!(rt; "a session begins");
+    }
+    let reader = reading(&SESSION, 66, UNDISTURBED);
+    let writer = writing(alloc, 5000, UNDISTURBED);
+    serve_on(target, reader, writer, ROUNDS)
+}
+
+/// Serves the session on a target that is open already.
+fn served_while_open(rt: &impl Abort, alloc: Global) -> AfterServing<'static, Writer> {
+    let mut target = target(rt, alloc, MACHINE_A, false, 65535);
+    serve_while_open(rt, alloc, &mut target)
+}
+
 /// The session is refused, and neither the reader nor the writer is called.
 fn is_not_touched(rt: &impl Abort, session: &AfterServing<'_, Writer>) {
     expect_same(rt, &session.ended, &Ended::Refused(0));
@@ -395,113 +698,28 @@ fn an_open_target_is_refused(rt: HostRuntime) {
     is_not_touched(&rt, &served_while_open(&rt, rt.alloc()));
 }
 
-/// What is read, the number of its fault, and how many bytes are written before.
-static NO_MESSAGES: [(&[u8], u16, usize); 4] = [
-    (b"JDWP-HandshakE", 4, 0),
-    (b"JDWP-Handshake\x00\x00\x00\x0a", 1, 43),
-    (b"JDWP-Handshake\x00\x01\x00\x01", 2, 43),
-    (b"JDWP-Handshake\x00\x00\x00\x0b\x00\x00\x00\x01\x01", 3, 43),
-];
-
-#[test]
-fn bytes_that_begin_no_message_are_refused(rt: HostRuntime) {
-    for (input, number, written) in NO_MESSAGES.iter() {
-        is_served(
-            &rt,
-            rt.alloc(),
-            false,
-            reading(input, 5000, UNDISTURBED),
-            writing(rt.alloc(), 5000, UNDISTURBED),
-            ROUNDS,
-            Ended::Refused(*number),
-            &ANSWERS[..(*written).min(111)],
-            number,
-        );
-    }
-}
-
-/// What is written is the answer to the handshake, and these bytes.
-fn is_written(rt: &impl Abort, written: &[u8], greeting: &[u8], behind: &[u8]) {
-    expect_that(rt, written.starts_with(greeting));
-    expect_that(rt, written.ends_with(behind));
-    expect_same(
-        rt,
-        &Some(written.len()),
-        &greeting.len().checked_add(behind.len()),
-    );
-}
-
-#[test]
-fn unknown_commands_are_answered(rt: HostRuntime) {
-    let input =
-        b"JDWP-Handshake\x00\x00\x00\x0b\x00\x00\x00\x05\x00\x40\x64\x00\x00\x00\x0b\x00\x00\x00\x06\x00\x01\x63";
-    let alloc = rt.alloc();
-    let reader = reading(input, 5000, UNDISTURBED);
+/// Serves the handshake for so many rounds, and the whole session behind it for none.
+fn serve_twice(
+    alloc: Global,
+    target: &mut Target,
+    rounds: u64,
+) -> (AfterServing<'static, Writer>, AfterServing<'static, Writer>) {
+    let reader = reading(&SESSION[..14], 66, UNDISTURBED);
     let writer = writing(alloc, 5000, UNDISTURBED);
-    let (ended, bytes) = served(&rt, alloc, true, reader, writer, ROUNDS);
-    expect_same(&rt, &ended, &Ended::LostByRead);
-    let replies =
-        b"\x00\x00\x00\x0b\x00\x00\x00\x05\x80\x00\x63\x00\x00\x00\x0b\x00\x00\x00\x06\x80\x00\x63";
-    is_written(&rt, &bytes, &ANSWERS_SUSPENDED[..43], replies);
-}
-
-#[test]
-fn an_empty_input_is_lost(rt: HostRuntime) {
-    is_served(
-        &rt,
-        rt.alloc(),
-        false,
-        reading(b"", 5000, UNDISTURBED),
-        writing(rt.alloc(), 5000, UNDISTURBED),
-        ROUNDS,
-        Ended::LostByRead,
-        &[],
-        &0,
-    );
-}
-
-/// The rounds, how the session ends behind them, and how many bytes are written.
-static ROUND_LIMITS: [(u64, Ended, usize); 7] = [
-    (0, Ended::TurnLimit, 0),
-    (1, Ended::TurnLimit, 0),
-    (2, Ended::TurnLimit, 43),
-    (3, Ended::TurnLimit, 74),
-    (4, Ended::TurnLimit, 85),
-    (5, Ended::TurnLimit, 100),
-    (6, Ended::Done, 111),
-];
-
-/// One read and five turns take six rounds.
-#[test]
-fn rounds_are_counted(rt: HostRuntime) {
-    for (rounds, want, written) in ROUND_LIMITS.iter() {
-        is_served(
-            &rt,
-            rt.alloc(),
-            false,
-            reading(&SESSION, 66, UNDISTURBED),
-            writing(rt.alloc(), 5000, UNDISTURBED),
-            *rounds,
-            *want,
-            &ANSWERS[..(*written).min(111)],
-            rounds,
-        );
-    }
-}
-
-/// The session is lost, and no thread is suspended.
-fn is_let_go(rt: &impl Abort, session: &AfterServing<'_, Writer>) {
-    expect_same(rt, &session.ended, &Ended::LostByRead);
-    expect_that(rt, !session.is_open);
-    expect_same(rt, &session.count, &Some(0));
-}
-
-#[test]
-fn a_loss_lowers_the_counts(rt: HostRuntime) {
-    let alloc = rt.alloc();
-    let reader = reading(&SESSION[..36], 66, UNDISTURBED);
+    let first = serve_on(target, reader, writer, rounds);
+    let reader = reading(&SESSION, 66, UNDISTURBED);
     let writer = writing(alloc, 5000, UNDISTURBED);
-    is_let_go(&rt, &served_on(&rt, alloc, true, reader, writer, ROUNDS));
+    (first, serve_on(target, reader, writer, 0))
+}
+
+/// The same of a new target.
+fn served_twice(
+    rt: &impl Abort,
+    alloc: Global,
+    rounds: u64,
+) -> (AfterServing<'static, Writer>, AfterServing<'static, Writer>) {
+    let mut target = target(rt, alloc, MACHINE_A, false, 65535);
+    serve_twice(alloc, &mut target, rounds)
 }
 
 /// VM_DEATH under the id 2.
@@ -509,10 +727,20 @@ const VM_DEATH: &[u8] =
     b"\x00\x00\x00\x15\x00\x00\x00\x02\x00\x40\x64\x00\x00\x00\x00\x01\x63\x00\x00\x00\x00";
 
 /// The first session of a machine ends so, behind one read, and its bytes are these behind the greeting.
-fn ends_by_steps(rt: &impl Abort, first: &AfterServing<'_, Writer>, want: Ended, behind: &[u8]) {
-    expect_same(rt, &first.ended, &want);
-    expect_same(rt, &first.reader.calls, &1);
-    is_written(rt, &first.writer.bytes, &ANSWERS[..43], behind);
+fn ends_by_steps(
+    rt: &impl Abort,
+    first: &AfterServing<'_, Writer>,
+    ended: Ended,
+    behind: &'static [u8],
+) {
+    let serving = Serving {
+        ended,
+        written: 43,
+        behind,
+        reads: Some(1),
+        ..ONE
+    };
+    goes_as_said(rt, way_of(first), &first.writer, &serving, 0);
 }
 
 /// A session of a machine that died is done, and neither its reader nor its writer is called.
@@ -540,28 +768,4 @@ fn threads_step_once_a_round(rt: HostRuntime) {
     let (first, _) = served_twice(&rt, rt.alloc(), 9);
     ends_by_steps(&rt, &first, Ended::TurnLimit, &[]);
     expect_same(&rt, &first.lives, &1);
-}
-
-/// Breakpoints at index 3 are requested twice, with the policies NONE and ALL. Both Sets are handled before a thread steps; then thread 1
-/// calls and comes there, both requests report it in one composite, and nobody steps any more.
-#[test]
-fn what_steps_report_is_written(rt: HostRuntime) {
-    let input = b"JDWP-Handshake\
-        \x00\x00\x00\x2b\x00\x00\x00\x02\x00\x0f\x01\x02\x00\x00\x00\x00\x01\x07\x01\
-        \x00\x00\x00\x00\x00\x00\x00\x0a\x00\x00\x00\x00\x00\x00\x00\x14\x00\x00\x00\x00\x00\x00\x00\x03\
-        \x00\x00\x00\x2b\x00\x00\x00\x03\x00\x0f\x01\x02\x02\x00\x00\x00\x01\x07\x01\
-        \x00\x00\x00\x00\x00\x00\x00\x0a\x00\x00\x00\x00\x00\x00\x00\x14\x00\x00\x00\x00\x00\x00\x00\x03";
-    let told = b"\x00\x00\x00\x0f\x00\x00\x00\x02\x80\x00\x00\x00\x00\x00\x01\
-        \x00\x00\x00\x0f\x00\x00\x00\x03\x80\x00\x00\x00\x00\x00\x02\
-        \x00\x00\x00\x5c\x00\x00\x00\x02\x00\x40\x64\x02\x00\x00\x00\x02\
-        \x02\x00\x00\x00\x01\x00\x00\x00\x00\x00\x00\x00\x01\x01\
-        \x00\x00\x00\x00\x00\x00\x00\x0a\x00\x00\x00\x00\x00\x00\x00\x14\x00\x00\x00\x00\x00\x00\x00\x03\
-        \x02\x00\x00\x00\x02\x00\x00\x00\x00\x00\x00\x00\x01\x01\
-        \x00\x00\x00\x00\x00\x00\x00\x0a\x00\x00\x00\x00\x00\x00\x00\x14\x00\x00\x00\x00\x00\x00\x00\x03";
-    let alloc = rt.alloc();
-    let reader = reading(input, 5000, UNDISTURBED);
-    let writer = writing(alloc, 5000, UNDISTURBED);
-    let (ended, bytes) = served(&rt, alloc, false, reader, writer, ROUNDS);
-    expect_same(&rt, &ended, &Ended::LostByRead);
-    is_written(&rt, &bytes, &ANSWERS[..43], told);
 }

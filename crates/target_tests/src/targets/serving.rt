@@ -1,13 +1,11 @@
 //! Sessions of a target that are served on readers and writers that fail, stop or take part of what they are given.
 ghost use Rattle.std.specs.Prelude.{◌≡◌, IfOk, IfSome};
 
-use crate::asserts::expect_same_for;
 use crate::targets::sessions::{Target, target};
 use jdwp_end::{Ended, Streams};
 use jdwp_engine::serve;
 use jdwp_value::ObjectId;
 use std::alloc::Global;
-use std::fmt::Debug;
 use std::io;
 use std::io::{ErrorKind, Read, Write};
 use std::process::Abort;
@@ -179,40 +177,10 @@ pub(crate) fn served_on<'a, W: Write + Drop>(
     serve_on(&mut target, reader, writer, rounds)
 }
 
-/// Serves one session, and answers how it ended and what was written.
-pub(crate) fn served(
-    rt: &impl Abort,
-    alloc: Global,
-    start_all: bool,
-    reader: Reader<'_>,
-    writer: Writer,
-    rounds: u64,
-) -> (Ended, Vec<u8>) {
-    let served = served_on(rt, alloc, start_all, reader, writer, rounds);
-    (served.ended, served.writer.bytes)
-}
-
-/// A session that is served ends so, and these bytes are written.
-pub(crate) fn is_served<N: Debug>(
-    rt: &impl Abort,
-    alloc: Global,
-    start_all: bool,
-    reader: Reader<'_>,
-    writer: Writer,
-    rounds: u64,
-    want: Ended,
-    answers: &[u8],
-    note: &N,
-) {
-    let (ended, bytes) = served(rt, alloc, start_all, reader, writer, rounds);
-    expect_same_for(rt, &ended, &want, note);
-    expect_same_for(rt, &bytes.as_slice(), &answers, note);
-}
-
 pub(crate) const ROUNDS: u64 = 1000;
 
 /// The handshake, IDSizes with id 1, Suspend with id 2, SuspendCount of thread 1 with id 3, Dispose with id 4.
-pub(crate) static SESSION: [u8; 66] = [
+pub(crate) const SESSION: [u8; 66] = [
     0x4a, 0x44, 0x57, 0x50, 0x2d, 0x48, 0x61, 0x6e, 0x64, 0x73, 0x68, 0x61, 0x6b, 0x65, //
     0x00, 0x00, 0x00, 0x0b, 0x00, 0x00, 0x00, 0x01, 0x00, 0x01, 0x07, //
     0x00, 0x00, 0x00, 0x0b, 0x00, 0x00, 0x00, 0x02, 0x00, 0x01, 0x08, //

@@ -1,12 +1,11 @@
 //! Worked examples of data.
-use crate::asserts::expect_same;
-use crate::machines::data_words::text_of;
-use crate::machines::rows::row;
+use crate::asserts::{expect_same, expect_that};
+use crate::captures::row_tests::{WIDTHS, sample_of, sizes_of};
 use jdwp_layout::{
-    Data, Datum, Entry, Field, Item, Layout, Scalar, data_size, entry_size, fields_of_event,
-    fields_of_modifier, layout_of, pass_entries, pass_entry, read, read_entry, read_field, refusal,
-    validate, write, write_entry,
+    Data, Datum, Entry, Field, Layout, Scalar, data_size, entry_size, layout_of, pass_entries,
+    pass_entry, read, read_entry, read_field, refusal, validate, write, write_entry,
 };
+use jdwp_show::composite_data_line;
 use jdwp_value::ObjectId;
 use jdwp_wire::{DataFault, IdSizes};
 use std::alloc::Global;
@@ -75,8 +74,9 @@ fn shown_and_written_as(
 
 /// The data are this text.
 fn is_shown(rt: &impl Abort, alloc: Global, values: &[Datum], text: &str) {
-    let shown = text_of(rt, alloc, values);
-    expect_same(rt, &shown.as_str(), &text);
+    let line = composite_data_line(alloc, 0, values).expect(rt, "memory");
+    let words = line.as_str().strip_prefix("< 0 Event.Composite ");
+    expect_same(rt, &words, &Some(text));
 }
 
 /// Each proper front of the slice is too short, and one byte more is too many.
@@ -93,8 +93,8 @@ fn ends_there(rt: &impl Abort, alloc: Global, layout: &Layout, sizes: &IdSizes, 
 /// The bytes, and a zero behind them.
 fn followed_by_zero(rt: &impl Abort, alloc: Global, bytes: &[u8]) -> Vec<u8> {
     let mut more = Vec::new(alloc);
-    push_bytes(rt, bytes, &mut more);
-    push_bytes(rt, &[0], &mut more);
+    more.extend_from_slice(bytes).expect(rt, "memory");
+    more.push(0).expect(rt, "memory");
     more
 }
 
@@ -114,7 +114,7 @@ fn accepted(
 }
 
 /// The layout of a request.
-pub(crate) fn request_of(rt: &impl Abort, (set, number): (u8, u8)) -> Layout {
+fn request_of(rt: &impl Abort, (set, number): (u8, u8)) -> Layout {
     let row = layout_of(set, number).expect(rt, "a row");
     row.layouts.expect(rt, "a row with layouts").request
 }
@@ -538,8 +538,8 @@ fn a_field_that_is_cut_off(rt: HostRuntime) {
 fn data_are_kept_as_they_are(rt: HostRuntime) {
     let items = vec![in rt.alloc(); Datum::One(Scalar::Int(1))].expect(&rt, "memory");
     let data = Data::new(items);
-    assert!(rt; are_one(data.items()));
-    assert!(rt; are_one(&data.into_items()));
+    expect_that(&rt, are_one(data.items()));
+    expect_that(&rt, are_one(&data.into_items()));
 }
 
 /// Whether the data are the int 1.
@@ -557,105 +557,9 @@ fn laws(_rt: HostRuntime) {
     jdwp_layout::laws::answers_first_fault();
 }
 
-/// Appends an id of so many bytes.
-fn push_id(rt: &impl Abort, width: u8, id: u8, bytes: &mut Vec<u8>) {
-    for _ in 1..width {
-        push_bytes(rt, &[0], bytes);
-    }
-    push_bytes(rt, &[id], bytes);
-}
-
-/// Appends bytes of the field.
-fn push_sample(rt: &impl Abort, field: Field, sizes: &IdSizes, bytes: &mut Vec<u8>) {
-    match field {
-        Field::Byte => push_bytes(rt, &[7], bytes),
-        Field::Boolean => push_bytes(rt, &[1], bytes),
-        Field::Int => push_bytes(rt, &[0xff, 0xff, 0xff, 0xfe], bytes),
-        Field::Long => push_bytes(rt, &[0x80, 0, 0, 0, 0, 0, 0, 3], bytes),
-        Field::String => push_bytes(rt, &[0, 0, 0, 3, 0x68, 0xc3, 0xa9], bytes),
-        Field::ObjectId => push_id(rt, sizes.object(), 5, bytes),
-        Field::ReferenceTypeId => push_id(rt, sizes.reference(), 10, bytes),
-        Field::MethodId => push_id(rt, sizes.method(), 20, bytes),
-        Field::FieldId => push_id(rt, sizes.field(), 30, bytes),
-        Field::FrameId => push_id(rt, sizes.frame(), 40, bytes),
-        Field::Location => push_place(rt, sizes, bytes),
-        Field::Value => push_bytes(rt, &[0x49, 0, 0, 0, 9], bytes),
-        Field::TaggedId => push_object(rt, sizes, bytes),
-    }
-}
-
-/// Appends these bytes.
-fn push_bytes(rt: &impl Abort, more: &[u8], bytes: &mut Vec<u8>) {
-    bytes.extend_from_slice(more).expect(rt, "memory");
-}
-
-/// Appends a location in an interface.
-fn push_place(rt: &impl Abort, sizes: &IdSizes, bytes: &mut Vec<u8>) {
-    push_bytes(rt, &[2], bytes);
-    push_id(rt, sizes.reference(), 10, bytes);
-    push_id(rt, sizes.method(), 20, bytes);
-    push_id(rt, 8, 3, bytes);
-}
-
-/// Appends an object behind its tag.
-fn push_object(rt: &impl Abort, sizes: &IdSizes, bytes: &mut Vec<u8>) {
-    push_bytes(rt, &[0x4c], bytes);
-    push_id(rt, sizes.object(), 5, bytes);
-}
-
-/// Appends bytes of each field.
-fn push_fields(rt: &impl Abort, fields: &[Field], sizes: &IdSizes, bytes: &mut Vec<u8>) {
-    for field in fields {
-        push_sample(rt, *field, sizes, bytes);
-    }
-}
-
-/// Appends one entry of each kind.
-fn push_kinds(rt: &impl Abort, events: bool, sizes: &IdSizes, bytes: &mut Vec<u8>) {
-    push_bytes(rt, &[0, 0, 0, if events { 18 } else { 12 }], bytes);
-    for kind in 0..256u32 {
-        let fields = if events {
-            fields_of_event(kind as u8)
-        } else {
-            fields_of_modifier(kind as u8)
-        };
-        if let Some(fields) = fields {
-            push_bytes(rt, &[kind as u8], bytes);
-            push_fields(rt, fields, sizes, bytes);
-        }
-    }
-}
-
-/// Appends a list of two entries.
-fn push_two(rt: &impl Abort, fields: &[Field], sizes: &IdSizes, bytes: &mut Vec<u8>) {
-    push_bytes(rt, &[0, 0, 0, 2], bytes);
-    push_fields(rt, fields, sizes, bytes);
-    push_fields(rt, fields, sizes, bytes);
-}
-
-/// Appends bytes of the item.
-fn push_item(rt: &impl Abort, item: Item, sizes: &IdSizes, bytes: &mut Vec<u8>) {
-    match item {
-        Item::One(field) => push_sample(rt, field, sizes, bytes),
-        Item::Many(Entry::Modifier) => push_kinds(rt, false, sizes, bytes),
-        Item::Many(Entry::Event) => push_kinds(rt, true, sizes, bytes),
-        Item::Many(Entry::Fields(fields)) => push_two(rt, fields, sizes, bytes),
-        Item::Region => push_bytes(rt, &[0x53, 0, 0, 0, 2, 0, 1, 0, 2], bytes),
-    }
-}
-
-/// Bytes of the layout: each list has two entries, and a list of modifiers or events one of each kind.
-fn sample(rt: &impl Abort, alloc: Global, layout: &Layout, sizes: &IdSizes) -> Vec<u8> {
-    let mut bytes = Vec::new(alloc);
-    for item in layout.items {
-        push_item(rt, *item, sizes, &mut bytes);
-    }
-    bytes
-}
-
 /// A sample of the layout is accepted.
 fn sample_is_accepted(rt: &impl Abort, alloc: Global, layout: &Layout, sizes: &IdSizes) {
-    let bytes = sample(rt, alloc, layout, sizes);
+    let bytes = sample_of(rt, alloc, layout, sizes).bytes;
     accepted(rt, alloc, layout, sizes, &bytes, &bytes, None);
 }
 
@@ -675,13 +579,7 @@ fn every_layout_at(rt: &impl Abort, alloc: Global, sizes: &IdSizes) {
 
 #[test]
 fn every_layout(rt: HostRuntime) {
-    for (field, method, object, reference, frame) in [
-        row((1, 2, 3, 4, 5)),
-        row((8, 7, 6, 5, 4)),
-        row((1, 1, 1, 1, 1)),
-        row((8, 8, 8, 8, 8)),
-    ] {
-        let sizes = IdSizes::new(field, method, object, reference, frame).expect(&rt, "widths");
-        every_layout_at(&rt, rt.alloc(), &sizes);
+    for widths in WIDTHS.iter() {
+        every_layout_at(&rt, rt.alloc(), &sizes_of(&rt, widths));
     }
 }
