@@ -1,261 +1,160 @@
 //! Answers that are read by their shape.
 use crate::asserts::expect_same;
 use jdwp_command::answers;
-use jdwp_layout::{Answer, Data, Datum, Scalar};
-use jdwp_value::{
-    ArrayRegion, FrameId, Location, ObjectId, ObjectTag, ReferenceTypeId, Tag, TaggedId, Value,
-};
-use jdwp_wire::ErrorCode;
+use jdwp_layout::{Answer, Data, Scalar, layout_of, read};
+use jdwp_wire::{ErrorCode, IdSizes};
 use std::alloc::Global;
+use std::fmt::Debug;
 use std::process::Abort;
+use test_parts::{bytes, commands};
 
-/// An answer of one item.
-fn one(rt: &impl Abort, alloc: Global, item: Datum) -> Answer {
-    Answer::Data(Data::new(vec![in alloc; item].expect(rt, "memory")))
-}
+/// A command, the data of its reply, and what is read of them by each of the ways to read an answer that reads something. Ids have 8 bytes.
+static ANSWERS: [((u8, u8), &str, &str); 17] = [
+    (commands::SUSPEND, "", " done"),
+    // A number, which may be negative.
+    (commands::SUSPEND_COUNT, "00000001", " int: 1"),
+    (commands::SUSPEND_COUNT, "fffffffb", " int: -5"),
+    (commands::IS_COLLECTED, "01", " boolean: true"),
+    // One text, and two.
+    (
+        commands::THREAD_NAME,
+        "00000004 6d61696e",
+        " text: \"main\"",
+    ),
+    (
+        commands::SIGNATURE_WITH_GENERIC,
+        "00000003 4c413b 00000000",
+        " texts: (\"LA;\", \"\")",
+    ),
+    // An object, a class, and an object behind its tag.
+    (
+        commands::THREAD_GROUP,
+        "0000000000000005",
+        " object: ObjectId(5)",
+    ),
+    (
+        commands::SUPERCLASS,
+        "000000000000000a",
+        " class: ReferenceTypeId(10)",
+    ),
+    (
+        commands::THIS_OBJECT,
+        "4c 0000000000000007",
+        " tagged: TaggedId { tag: Object, id: ObjectId(7) }",
+    ),
+    // Elements of an array.
+    (
+        commands::GET_ELEMENTS,
+        "49 00000002 00000003 00000004",
+        " region: ArrayRegion { tag: Int, elements: [Int(3), Int(4)] }",
+    ),
+    // Two numbers, and a type tag with a class.
+    (
+        commands::THREAD_STATUS,
+        "00000001 00000000",
+        " ints: (1, 0)",
+    ),
+    // ObjectReference.ReferenceType.
+    (
+        (9, 1),
+        "02 000000000000000a",
+        " typed: (2, ReferenceTypeId(10))",
+    ),
+    // A list of frames, and two lists.
+    (
+        commands::FRAMES,
+        "00000001 000000000000001e 00 0000000000000000 0000000000000000 0000000000000000",
+        " list: 1 frame: (FrameId(30), Null)",
+    ),
+    (
+        commands::GROUP_CHILDREN,
+        "00000001 0000000000000001 00000000",
+        " lists: (1, 0)",
+    ),
+    // Entries of one field.
+    (
+        commands::ALL_THREADS,
+        "00000001 0000000000000001",
+        " list: 1 object: ObjectId(1)",
+    ),
+    (
+        commands::INTERFACES,
+        "00000001 000000000000000a",
+        " list: 1 class: ReferenceTypeId(10)",
+    ),
+    (
+        commands::GET_SLOTS,
+        "00000001 49 00000003",
+        " list: 1 value: Int(3)",
+    ),
+];
 
-/// An answer of two items.
-fn two(rt: &impl Abort, alloc: Global, first: Datum, second: Datum) -> Answer {
-    Answer::Data(Data::new(vec![in alloc; first, second].expect(rt, "memory")))
-}
-
-/// A datum of this text.
-fn text(rt: &impl Abort, alloc: Global, text: &str) -> Datum {
-    let text = String::from_str(alloc, text).expect(rt, "memory");
-    Datum::One(Scalar::String(text))
-}
-
-/// An answer of one text.
-fn named(rt: &impl Abort, alloc: Global, name: &str) -> Answer {
-    one(rt, alloc, text(rt, alloc, name))
-}
-
-/// An answer of two texts.
-fn named_twice(rt: &impl Abort, alloc: Global, first: &str, second: &str) -> Answer {
-    let first = text(rt, alloc, first);
-    let second = text(rt, alloc, second);
-    two(rt, alloc, first, second)
-}
-
-/// The fields of a frame at no place.
-fn frame_fields(rt: &impl Abort, alloc: Global, frame: u64) -> Vec<Scalar> {
-    vec![in alloc;
-        Scalar::FrameId(FrameId(frame)),
-        Scalar::Location(Location::Null),
-    ]
-    .expect(rt, "memory")
-}
-
-/// A list of one frame at no place.
-fn frames(rt: &impl Abort, alloc: Global, frame: u64) -> Datum {
-    let entry = frame_fields(rt, alloc, frame);
-    Datum::Many(vec![in alloc; entry].expect(rt, "memory"))
-}
-
-/// An error.
-fn error() -> Answer {
-    Answer::Error(ErrorCode(10))
-}
-
-#[test]
-fn an_empty_reply_is_done(rt: HostRuntime) {
-    let nothing = Data::new(Vec::new(rt.alloc()));
-    expect_same(&rt, &answers::is_done(&Answer::Data(nothing)), &true);
-    expect_same(&rt, &answers::is_done(&error()), &false);
-    let number = one(&rt, rt.alloc(), Datum::One(Scalar::Int(1)));
-    expect_same(&rt, &answers::is_done(&number), &false);
-}
-
-/// Nothing but -5 is read.
-fn is_minus_five(rt: &impl Abort, answer: &Answer) {
-    expect_same(rt, &answers::one_int(answer), &Some(-5));
-    expect_same(rt, &answers::one_object(answer), &None);
-}
-
-/// No number is read of an error.
-fn is_no_number(rt: &impl Abort, answer: &Answer) {
-    expect_same(rt, &answers::one_int(answer), &None);
-}
-
-/// The boolean true is read.
-fn is_true(rt: &impl Abort, answer: &Answer) {
-    expect_same(rt, &answers::one_boolean(answer), &Some(true));
-}
-
-#[test]
-fn one_number(rt: HostRuntime) {
-    let minus_five = one(&rt, rt.alloc(), Datum::One(Scalar::Int(-5)));
-    is_minus_five(&rt, &minus_five);
-    is_no_number(&rt, &error());
-    let yes = one(&rt, rt.alloc(), Datum::One(Scalar::Boolean(true)));
-    is_true(&rt, &yes);
-}
-
-/// One text is read, and not two.
-fn is_one_text(rt: &impl Abort, answer: &Answer, wanted: &str) {
-    expect_same(rt, &answers::one_text(answer), &Some(wanted));
-    expect_same(rt, &answers::two_texts(answer), &None);
-}
-
-/// Two texts are read, and not one.
-fn are_two_texts(rt: &impl Abort, answer: &Answer, wanted: (&str, &str)) {
-    expect_same(rt, &answers::two_texts(answer), &Some(wanted));
-    expect_same(rt, &answers::one_text(answer), &None);
-}
-
-#[test]
-fn one_text_and_two(rt: HostRuntime) {
-    is_one_text(&rt, &named(&rt, rt.alloc(), "main"), "main");
-    let answer = named_twice(&rt, rt.alloc(), "LA;", "");
-    are_two_texts(&rt, &answer, ("LA;", ""));
-}
-
-/// An object is read, and no class.
-fn is_object(rt: &impl Abort, answer: &Answer, wanted: ObjectId) {
-    expect_same(rt, &answers::one_object(answer), &Some(wanted));
-    expect_same(rt, &answers::one_class(answer), &None);
-}
-
-/// A class is read.
-fn is_class(rt: &impl Abort, answer: &Answer, wanted: ReferenceTypeId) {
-    expect_same(rt, &answers::one_class(answer), &Some(wanted));
-}
-
-#[test]
-fn one_id(rt: HostRuntime) {
-    let group = Datum::One(Scalar::ObjectId(ObjectId(5)));
-    is_object(&rt, &one(&rt, rt.alloc(), group), ObjectId(5));
-    let class = ReferenceTypeId(10);
-    let parent = Datum::One(Scalar::ReferenceTypeId(class));
-    is_class(&rt, &one(&rt, rt.alloc(), parent), class);
-}
-
-/// An object behind its tag is read.
-fn is_tagged(rt: &impl Abort, answer: &Answer, wanted: TaggedId) {
-    expect_same(rt, &answers::one_tagged(answer), &Some(wanted));
-}
-
-#[test]
-fn one_tagged_id(rt: HostRuntime) {
-    let this = TaggedId {
-        tag: ObjectTag::Object,
-        id: ObjectId(7),
-    };
-    let answer = one(&rt, rt.alloc(), Datum::One(Scalar::TaggedId(this)));
-    is_tagged(&rt, &answer, this);
-}
-
-/// An answer of the ints 3 and 4, in an array.
-fn three_and_four(rt: &impl Abort, alloc: Global) -> Answer {
-    let elements = vec![in alloc; Value::Int(3), Value::Int(4)].expect(rt, "memory");
-    let region = ArrayRegion::new(Tag::Int, elements).expect(rt, "a region");
-    one(rt, alloc, Datum::Region(region))
-}
-
-/// The elements of an array are read.
-fn are_elements(rt: &impl Abort, answer: &Answer, wanted: &[Value]) {
-    let read = answers::one_region(answer).expect(rt, "a region is read");
-    expect_same(rt, &read.elements(), &wanted);
-}
-
-#[test]
-fn elements_of_an_array(rt: HostRuntime) {
-    let answer = three_and_four(&rt, rt.alloc());
-    are_elements(&rt, &answer, &[Value::Int(3), Value::Int(4)]);
-}
-
-/// Two numbers are read.
-fn are_two_ints(rt: &impl Abort, answer: &Answer, wanted: (i32, i32)) {
-    expect_same(rt, &answers::two_ints(answer), &Some(wanted));
-}
-
-/// A type tag and a class are read, and no two numbers.
-fn is_typed(rt: &impl Abort, answer: &Answer, wanted: (u8, ReferenceTypeId)) {
-    expect_same(rt, &answers::type_and_class(answer), &Some(wanted));
-    expect_same(rt, &answers::two_ints(answer), &None);
-}
-
-/// An answer of two fields.
-fn fields(rt: &impl Abort, alloc: Global, first: Scalar, second: Scalar) -> Answer {
-    two(rt, alloc, Datum::One(first), Datum::One(second))
-}
-
-#[test]
-fn two_numbers(rt: HostRuntime) {
-    let status = fields(&rt, rt.alloc(), Scalar::Int(1), Scalar::Int(0));
-    are_two_ints(&rt, &status, (1, 0));
-    let class = ReferenceTypeId(10);
-    let typed = fields(
-        &rt,
-        rt.alloc(),
-        Scalar::Byte(2),
-        Scalar::ReferenceTypeId(class),
-    );
-    is_typed(&rt, &typed, (2, class));
-}
-
-/// A frame is read, and no object.
-fn is_frame(rt: &impl Abort, entry: &[Scalar], wanted: FrameId) {
-    expect_same(
-        rt,
-        &answers::frame_in(entry),
-        &Some((wanted, Location::Null)),
-    );
-    expect_same(rt, &answers::object_in(entry), &None);
-}
-
-/// A list of one entry is read, which is a frame.
-fn is_list_of_frame(rt: &impl Abort, answer: &Answer, wanted: FrameId) {
-    match answers::one_list(answer) {
-        Some([entry]) => is_frame(rt, entry, wanted),
-        _ => panic!(rt; "no list of one entry is read"),
+/// Appends what was read under a name, if it was.
+fn say<T: Debug>(rt: &impl Abort, name: &str, read: &Option<T>, text: &mut String) {
+    if let Some(read) = read {
+        write!(text, " {name}: {read:?}").expect(rt, "memory");
     }
 }
 
+/// Appends what is read of an entry of a list.
+fn say_entry(rt: &impl Abort, entry: &[Scalar], text: &mut String) {
+    say(rt, "object", &answers::object_in(entry), text);
+    say(rt, "class", &answers::class_in(entry), text);
+    say(rt, "value", &answers::value_in(entry), text);
+    say(rt, "frame", &answers::frame_in(entry), text);
+}
+
+/// Appends what is read as lists.
+fn say_lists(rt: &impl Abort, answer: &Answer, text: &mut String) {
+    if let Some(list) = answers::one_list(answer) {
+        say(rt, "list", &Some(list.len()), text);
+        for entry in list {
+            say_entry(rt, entry, text);
+        }
+    }
+    if let Some((first, second)) = answers::two_lists(answer) {
+        say(rt, "lists", &Some((first.len(), second.len())), text);
+    }
+}
+
+/// What is read of an answer.
+fn told(rt: &impl Abort, alloc: Global, answer: &Answer) -> String {
+    let mut text = String::new(alloc);
+    if answers::is_done(answer) {
+        text.push_str(" done").expect(rt, "memory");
+    }
+    say(rt, "int", &answers::one_int(answer), &mut text);
+    say(rt, "text", &answers::one_text(answer), &mut text);
+    say(rt, "boolean", &answers::one_boolean(answer), &mut text);
+    say(rt, "object", &answers::one_object(answer), &mut text);
+    say(rt, "class", &answers::one_class(answer), &mut text);
+    say(rt, "tagged", &answers::one_tagged(answer), &mut text);
+    say(rt, "region", &answers::one_region(answer), &mut text);
+    say(rt, "ints", &answers::two_ints(answer), &mut text);
+    say(rt, "texts", &answers::two_texts(answer), &mut text);
+    say(rt, "typed", &answers::type_and_class(answer), &mut text);
+    say_lists(rt, answer, &mut text);
+    text
+}
+
+/// The answer to a command whose reply has these data.
+fn answer_of(rt: &impl Abort, alloc: Global, (set, number): (u8, u8), hex: &str) -> Answer {
+    let layouts = layout_of(set, number).expect(rt, "a row").layouts;
+    let layout = layouts.expect(rt, "a row with layouts").reply;
+    let sizes = IdSizes::new(8, 8, 8, 8, 8).expect(rt, "widths");
+    let data = bytes(alloc, hex).expect(rt, "memory");
+    let items = read(alloc, &layout, &sizes, &data).expect(rt, "data that read");
+    Answer::Data(Data::new(items))
+}
+
+/// Each way to read an answer reads those of its shape, and no other; and nothing is read of an error.
 #[test]
-fn a_list_of_frames(rt: HostRuntime) {
-    let frames = frames(&rt, rt.alloc(), 30);
-    let answer = one(&rt, rt.alloc(), frames);
-    is_list_of_frame(&rt, &answer, FrameId(30));
-}
-
-/// Two lists of so many entries are read, and not one.
-fn are_lists(rt: &impl Abort, answer: &Answer, wanted: (usize, usize)) {
-    let (first, second) = answers::two_lists(answer).expect(rt, "two lists are read");
-    expect_same(rt, &(first.len(), second.len()), &wanted);
-    expect_same(rt, &answers::one_list(answer).is_none(), &true);
-}
-
-/// An answer of a list of one frame, and of a list of nothing.
-fn frame_and_nothing(rt: &impl Abort, alloc: Global) -> Answer {
-    let frames = frames(rt, alloc, 1);
-    two(rt, alloc, frames, Datum::Many(Vec::new(alloc)))
-}
-
-#[test]
-fn two_lists_of_entries(rt: HostRuntime) {
-    are_lists(&rt, &frame_and_nothing(&rt, rt.alloc()), (1, 0));
-}
-
-/// A thread is read, and no value.
-fn is_thread(rt: &impl Abort, entry: &[Scalar]) {
-    expect_same(rt, &answers::object_in(entry), &Some(ObjectId(1)));
-    expect_same(rt, &answers::value_in(entry), &None);
-}
-
-/// A class is read.
-fn is_class_entry(rt: &impl Abort, entry: &[Scalar]) {
-    expect_same(rt, &answers::class_in(entry), &Some(ReferenceTypeId(10)));
-}
-
-/// A value is read.
-fn is_value_entry(rt: &impl Abort, entry: &[Scalar]) {
-    expect_same(rt, &answers::value_in(entry), &Some(Value::Int(3)));
-}
-
-#[test]
-fn entries_of_one_field(rt: HostRuntime) {
-    is_thread(&rt, &[Scalar::ObjectId(ObjectId(1))]);
-    is_class_entry(&rt, &[Scalar::ReferenceTypeId(ReferenceTypeId(10))]);
-    is_value_entry(&rt, &[Scalar::Value(Value::Int(3))]);
+fn answers_are_read_by_their_shape(rt: HostRuntime) {
+    for &(command, hex, wanted) in ANSWERS.iter() {
+        let answer = answer_of(&rt, rt.alloc(), command, hex);
+        let found = told(&rt, rt.alloc(), &answer);
+        expect_same(&rt, &(command, found.as_str()), &(command, wanted));
+    }
+    let error = told(&rt, rt.alloc(), &Answer::Error(ErrorCode(10)));
+    expect_same(&rt, &error.as_str(), &"");
 }

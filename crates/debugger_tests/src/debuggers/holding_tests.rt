@@ -191,43 +191,27 @@ fn goes(rt: &impl Abort, alloc: Global, acts: &[Act]) {
     goes_on_as_told(rt, alloc, &mut debugger, acts);
 }
 
-#[test]
-fn an_event_is_shown_at_once(rt: HostRuntime) {
-    goes(&rt, rt.alloc(), &CROSSED);
-    goes(&rt, rt.alloc(), &IN_ORDER);
+fn sessions() -> [&'static [Act]; 11] {
+    [
+        &CROSSED,
+        &IN_ORDER,
+        &COUNTED,
+        &NEXT_BUT_ONE,
+        &MADE_ANEW,
+        &ANOTHER_MADE,
+        &INVOKED,
+        &DISPOSED,
+        &REDEFINED,
+        &OUT_OF_TURN,
+        &LOST,
+    ]
 }
 
 #[test]
-fn a_resume_in_vain_is_settled(rt: HostRuntime) {
-    for acts in [
-        COUNTED.as_slice(),
-        NEXT_BUT_ONE.as_slice(),
-        MADE_ANEW.as_slice(),
-        ANOTHER_MADE.as_slice(),
-    ] {
+fn each_session_goes_as_it_was_worked_out(rt: HostRuntime) {
+    for acts in sessions() {
         goes(&rt, rt.alloc(), acts);
     }
-}
-
-#[test]
-fn invocations_come_to_nothing(rt: HostRuntime) {
-    goes(&rt, rt.alloc(), &INVOKED);
-}
-
-#[test]
-fn nobody_can_be_told(rt: HostRuntime) {
-    for acts in [
-        DISPOSED.as_slice(),
-        REDEFINED.as_slice(),
-        OUT_OF_TURN.as_slice(),
-    ] {
-        goes(&rt, rt.alloc(), acts);
-    }
-}
-
-#[test]
-fn a_new_session_begins_anew(rt: HostRuntime) {
-    goes(&rt, rt.alloc(), &LOST);
 }
 
 #[test]

@@ -98,36 +98,11 @@ fn sure_after(rt: &impl Abort, alloc: Global, watch: &mut Watch, steps: &[Step])
     sure
 }
 
-/// A debugger that knows the threads 0 and 1 by events that stopped nobody.
-fn of_both(rt: &impl Abort, alloc: Global, one_by_one: bool) -> Watch {
-    let mut watch = of_first(rt, alloc, one_by_one);
-    take_step(rt, alloc, &mut watch, Step::Reads(NONE, 0, 1));
-    watch
-}
-
-/// One that knows thread 0.
+/// One that knows thread 0 by an event that stopped nobody.
 fn of_first(rt: &impl Abort, alloc: Global, one_by_one: bool) -> Watch {
     let mut watch = Watch::new(alloc, one_by_one);
     take_step(rt, alloc, &mut watch, Step::Reads(NONE, 0, 0));
     watch
-}
-
-/// Expects this of both threads after these steps, where both are known and composites are not sent one by one.
-fn expect_sure(rt: &impl Abort, alloc: Global, steps: &[Step], sure: (u64, u64)) {
-    let mut watch = of_both(rt, alloc, false);
-    expect_same(rt, &sure_after(rt, alloc, &mut watch, steps), &sure);
-}
-
-/// Expects this where thread 0 is known, and thread 1 begins later.
-fn expect_later(rt: &impl Abort, alloc: Global, steps: &[Step], sure: (u64, u64)) {
-    let mut watch = of_first(rt, alloc, false);
-    expect_same(rt, &sure_after(rt, alloc, &mut watch, steps), &sure);
-}
-
-/// Expects this where both are known, and composites are sent one by one.
-fn expect_spaced(rt: &impl Abort, alloc: Global, steps: &[Step], sure: (u64, u64)) {
-    let mut watch = of_both(rt, alloc, true);
-    expect_same(rt, &sure_after(rt, alloc, &mut watch, steps), &sure);
 }
 
 const STOPPED: Step = Step::Reads(ALL, 0, 0);
@@ -136,101 +111,192 @@ const RESUMES: Step = Step::Asks(Asked::Resume);
 
 const RESUMED: Step = Step::IsDone(Asked::Resume);
 
-#[test]
-fn an_event_is_shown_at_once(rt: HostRuntime) {
-    let stopped_again = Step::Reads(ALL, 0, 1);
+const SUSPENDS: Step = Step::Asks(Asked::Suspend);
+
+const SUSPENDED: Step = Step::IsDone(Asked::Suspend);
+
+/// An event of its own stops thread 0, and thread 1.
+const OWN: Step = Step::Reads(EVENT_THREAD, 0, 0);
+
+const OWN_OF_1: Step = Step::Reads(EVENT_THREAD, 0, 1);
+
+const RESUMES_1: Step = Step::Asks(Asked::ResumeThread(1));
+
+const COUNTS_1: Step = Step::Asks(Asked::SuspendCount(1));
+
+const INVOKES: Step = Step::Invokes(Invocation::ByAll);
+
+const INVOKES_ALONE: Step = Step::Invokes(Invocation::ByThread(ObjectId(1)));
+
+/// What is known before a session's steps.
+#[derive(Clone, Copy)]
+enum Known {
+    /// Both threads, by events that stopped nobody.
+    Both,
+    /// Both, and composites are sent one by one.
+    Spaced,
+    /// Thread 0; thread 1 begins later.
+    First,
+}
+
+/// What is known, the steps, and what the counts of both threads are surely no less than behind them.
+static SESSIONS: [(Known, &[Step], (u64, u64)); 27] = [
     // All are stopped and resumed, and the next event's composite is read before the answer to the Resume, or behind it.
-    let crossed = [STOPPED, RESUMES, stopped_again];
-    expect_sure(&rt, rt.alloc(), &crossed, (1, 1));
-    let in_order = [STOPPED, RESUMES, RESUMED, stopped_again];
-    expect_sure(&rt, rt.alloc(), &in_order, (1, 1));
-}
-
-#[test]
-fn a_suspend_absorbs_a_resume(rt: HostRuntime) {
-    let paused = [
-        Step::Asks(Asked::Suspend),
-        RESUMES,
-        Step::IsDone(Asked::Suspend),
-        RESUMED,
-        Step::Reads(EVENT_THREAD, 0, 0),
-    ];
-    expect_sure(&rt, rt.alloc(), &paused, (1, 0));
-}
-
-#[test]
-fn a_resume_in_vain_is_settled(rt: HostRuntime) {
-    let own = Step::Reads(EVENT_THREAD, 0, 0);
-    expect_sure(&rt, rt.alloc(), &[RESUMES, RESUMED, own], (0, 0));
-    // by a SuspendCount,
-    let asked = [
-        RESUMES,
-        RESUMED,
-        own,
-        Step::Asks(Asked::SuspendCount(0)),
-        Step::IsTold(0, 1),
-    ];
-    expect_sure(&rt, rt.alloc(), &asked, (1, 0));
-    // and by an event of a request that was made after it.
-    let made_anew = [
-        RESUMES,
-        Step::Asks(Asked::AllThreads),
-        RESUMED,
-        Step::IsDone(Asked::AllThreads),
-        Step::Reads(EVENT_THREAD, 2, 0),
-    ];
-    expect_sure(&rt, rt.alloc(), &made_anew, (1, 0));
-}
-
-#[test]
-fn a_resume_counts_while_it_waits(rt: HostRuntime) {
-    expect_sure(&rt, rt.alloc(), &[STOPPED, RESUMES], (0, 0));
-    let of_one = Step::Asks(Asked::ResumeThread(1));
-    expect_sure(&rt, rt.alloc(), &[STOPPED, of_one], (1, 0));
-    // One that is refused keeps what there was.
-    let refused = [STOPPED, of_one, Step::IsRefused(Asked::ResumeThread(1))];
-    expect_sure(&rt, rt.alloc(), &refused, (1, 1));
-    let resumed = [STOPPED, of_one, Step::IsDone(Asked::ResumeThread(1))];
-    expect_sure(&rt, rt.alloc(), &resumed, (1, 0));
-}
-
-#[test]
-fn a_count_lowers_nothing(rt: HostRuntime) {
-    let told = [
-        STOPPED,
-        Step::Asks(Asked::SuspendCount(0)),
-        Step::IsTold(0, 0),
-    ];
-    expect_sure(&rt, rt.alloc(), &told, (1, 1));
-    let negative = [Step::Asks(Asked::SuspendCount(0)), Step::IsTold(0, -1)];
-    expect_sure(&rt, rt.alloc(), &negative, (0, 0));
-}
-
-#[test]
-fn threads_that_begin_are_counted_from_then(rt: HostRuntime) {
-    expect_later(&rt, rt.alloc(), &[STOPPED], (1, 0));
-    let asks = Step::Asks(Asked::SuspendCount(1));
-    expect_later(
-        &rt,
-        rt.alloc(),
-        &[STOPPED, asks, Step::IsTold(1, 1)],
+    (
+        Known::Both,
+        &[STOPPED, RESUMES, Step::Reads(ALL, 0, 1)],
         (1, 1),
-    );
-    let suspends = Step::Asks(Asked::Suspend);
-    let suspended = Step::IsDone(Asked::Suspend);
+    ),
+    (
+        Known::Both,
+        &[STOPPED, RESUMES, RESUMED, Step::Reads(ALL, 0, 1)],
+        (1, 1),
+    ),
+    // A Suspend absorbs a Resume.
+    (
+        Known::Both,
+        &[SUSPENDS, RESUMES, SUSPENDED, RESUMED, OWN],
+        (1, 0),
+    ),
+    // A Resume in vain is settled
+    (Known::Both, &[RESUMES, RESUMED, OWN], (0, 0)),
+    // by a SuspendCount,
+    (
+        Known::Both,
+        &[
+            RESUMES,
+            RESUMED,
+            OWN,
+            Step::Asks(Asked::SuspendCount(0)),
+            Step::IsTold(0, 1),
+        ],
+        (1, 0),
+    ),
+    // and by an event of a request that was made after it.
+    (
+        Known::Both,
+        &[
+            RESUMES,
+            Step::Asks(Asked::AllThreads),
+            RESUMED,
+            Step::IsDone(Asked::AllThreads),
+            Step::Reads(EVENT_THREAD, 2, 0),
+        ],
+        (1, 0),
+    ),
+    // A Resume counts while it waits.
+    (Known::Both, &[STOPPED, RESUMES], (0, 0)),
+    (Known::Both, &[STOPPED, RESUMES_1], (1, 0)),
+    // One that is refused keeps what there was.
+    (
+        Known::Both,
+        &[STOPPED, RESUMES_1, Step::IsRefused(Asked::ResumeThread(1))],
+        (1, 1),
+    ),
+    (
+        Known::Both,
+        &[STOPPED, RESUMES_1, Step::IsDone(Asked::ResumeThread(1))],
+        (1, 0),
+    ),
+    // A count lowers nothing.
+    (
+        Known::Both,
+        &[
+            STOPPED,
+            Step::Asks(Asked::SuspendCount(0)),
+            Step::IsTold(0, 0),
+        ],
+        (1, 1),
+    ),
+    (
+        Known::Both,
+        &[Step::Asks(Asked::SuspendCount(0)), Step::IsTold(0, -1)],
+        (0, 0),
+    ),
+    // Threads that begin are counted from then.
+    (Known::First, &[STOPPED], (1, 0)),
+    (
+        Known::First,
+        &[STOPPED, COUNTS_1, Step::IsTold(1, 1)],
+        (1, 1),
+    ),
     // A Suspend is asked that comes before thread 1 begins, whose own event stops it.
-    let own = Step::Reads(EVENT_THREAD, 0, 1);
-    expect_later(&rt, rt.alloc(), &[suspends, own, suspended], (1, 1));
+    (Known::First, &[SUSPENDS, OWN_OF_1, SUSPENDED], (1, 1)),
     // A Suspend that is asked later counts for it, and so does the event of another thread.
-    let named = [suspends, own, suspended, suspends, suspended, STOPPED];
-    expect_later(&rt, rt.alloc(), &named, (3, 3));
-    let counted = [STOPPED, asks, suspends, Step::IsTold(1, 0), suspended];
-    expect_later(&rt, rt.alloc(), &counted, (2, 1));
-    let early = [
-        Step::Asks(Asked::SuspendThread(1)),
-        Step::IsRefused(Asked::SuspendThread(1)),
-    ];
-    expect_later(&rt, rt.alloc(), &early, (0, 0));
+    (
+        Known::First,
+        &[SUSPENDS, OWN_OF_1, SUSPENDED, SUSPENDS, SUSPENDED, STOPPED],
+        (3, 3),
+    ),
+    (
+        Known::First,
+        &[STOPPED, COUNTS_1, SUSPENDS, Step::IsTold(1, 0), SUSPENDED],
+        (2, 1),
+    ),
+    (
+        Known::First,
+        &[
+            Step::Asks(Asked::SuspendThread(1)),
+            Step::IsRefused(Asked::SuspendThread(1)),
+        ],
+        (0, 0),
+    ),
+    // Composites that are sent one by one leave one event unknown.
+    (Known::Spaced, &[RESUMES, RESUMED, OWN], (0, 0)),
+    (
+        Known::Spaced,
+        &[RESUMES, RESUMED, OWN, Step::Reads(ALL, 0, 1)],
+        (1, 1),
+    ),
+    (
+        Known::Both,
+        &[RESUMES, RESUMED, OWN, Step::Reads(ALL, 0, 1)],
+        (0, 0),
+    ),
+    (Known::Spaced, &[OWN, RESUMES, RESUMED, OWN], (1, 0)),
+    // Invocations come to nothing.
+    (Known::Both, &[STOPPED, INVOKES], (0, 0)),
+    // A breakpoint in the method stops all again.
+    (Known::Both, &[STOPPED, INVOKES, STOPPED], (1, 1)),
+    (
+        Known::Both,
+        &[
+            STOPPED,
+            INVOKES,
+            STOPPED,
+            RESUMES,
+            Step::Returns(Invocation::ByAll),
+            RESUMED,
+        ],
+        (1, 1),
+    ),
+    (Known::Both, &[STOPPED, INVOKES_ALONE], (1, 0)),
+    (
+        Known::Both,
+        &[
+            STOPPED,
+            INVOKES_ALONE,
+            Step::Returns(Invocation::ByThread(ObjectId(1))),
+        ],
+        (1, 1),
+    ),
+];
+
+/// What is surely known behind these steps.
+fn sure_of(rt: &impl Abort, alloc: Global, known: Known, steps: &[Step]) -> (u64, u64) {
+    let mut watch = of_first(rt, alloc, matches!(known, Known::Spaced));
+    if !matches!(known, Known::First) {
+        take_step(rt, alloc, &mut watch, Step::Reads(NONE, 0, 1));
+    }
+    sure_after(rt, alloc, &mut watch, steps)
+}
+
+#[test]
+fn each_session_goes_as_it_was_worked_out(rt: HostRuntime) {
+    for (place, &(known, steps, sure)) in SESSIONS.iter().enumerate() {
+        let found = sure_of(&rt, rt.alloc(), known, steps);
+        expect_same(&rt, &(place, found), &(place, sure));
+    }
 }
 
 #[test]
@@ -251,35 +317,4 @@ fn threads_that_were_named_are_shown_in_order(rt: HostRuntime) {
         expect_same(&rt, &threads.next(), &Some(ObjectId(id)));
     }
     expect_same(&rt, &threads.next(), &None);
-}
-
-#[test]
-fn composites_one_by_one_leave_one_event_unknown(rt: HostRuntime) {
-    let own = Step::Reads(EVENT_THREAD, 0, 0);
-    expect_spaced(&rt, rt.alloc(), &[RESUMES, RESUMED, own], (0, 0));
-    let next_but_one = [RESUMES, RESUMED, own, Step::Reads(ALL, 0, 1)];
-    expect_spaced(&rt, rt.alloc(), &next_but_one, (1, 1));
-    expect_sure(&rt, rt.alloc(), &next_but_one, (0, 0));
-    expect_spaced(&rt, rt.alloc(), &[own, RESUMES, RESUMED, own], (1, 0));
-}
-
-#[test]
-fn invocations_come_to_nothing(rt: HostRuntime) {
-    let invokes = Step::Invokes(Invocation::ByAll);
-    expect_sure(&rt, rt.alloc(), &[STOPPED, invokes], (0, 0));
-    // A breakpoint in the method stops all again.
-    expect_sure(&rt, rt.alloc(), &[STOPPED, invokes, STOPPED], (1, 1));
-    let returned = [
-        STOPPED,
-        invokes,
-        STOPPED,
-        RESUMES,
-        Step::Returns(Invocation::ByAll),
-        RESUMED,
-    ];
-    expect_sure(&rt, rt.alloc(), &returned, (1, 1));
-    let alone = Step::Invokes(Invocation::ByThread(ObjectId(1)));
-    expect_sure(&rt, rt.alloc(), &[STOPPED, alone], (1, 0));
-    let back = Step::Returns(Invocation::ByThread(ObjectId(1)));
-    expect_sure(&rt, rt.alloc(), &[STOPPED, alone, back], (1, 1));
 }
