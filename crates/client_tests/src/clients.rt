@@ -2,6 +2,7 @@
 //! call.
 mod client_tests;
 mod failing_tests;
+mod frames_tests;
 mod many_tests;
 mod packets;
 mod peers;

@@ -53,6 +53,18 @@ pub(crate) fn push_breakpoint(rt: &impl Abort, bytes: &mut Vec<u8>, policy: u8, 
     push(rt, bytes, &3u64.to_be_bytes());
 }
 
+/// A reply to Frames under this id: one frame, 7, at index 3 of method 20 of class 10.
+pub(crate) fn push_frames_reply(rt: &impl Abort, bytes: &mut Vec<u8>, id: u32) {
+    push(rt, bytes, &48u32.to_be_bytes());
+    push(rt, bytes, &id.to_be_bytes());
+    push(rt, bytes, &[0x80, 0x00, 0x00, 0x00, 0x00, 0x00, 0x01]);
+    push(rt, bytes, &7u64.to_be_bytes());
+    push(rt, bytes, &[0x01]);
+    push(rt, bytes, &10u64.to_be_bytes());
+    push(rt, bytes, &20u64.to_be_bytes());
+    push(rt, bytes, &3u64.to_be_bytes());
+}
+
 fn push(rt: &impl Abort, bytes: &mut Vec<u8>, more: &[u8]) {
     bytes.extend_from_slice(more).expect(rt, "memory");
 }
