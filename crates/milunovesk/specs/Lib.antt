@@ -27,5 +27,6 @@ pub mod Port
 pub mod Answer
 pub mod EventFields
 pub mod Text
+pub mod Frames
 pub mod Live
 pub mod Client

@@ -1,4 +1,5 @@
 //! What holds of all of them: each function says it, in its contract, and does nothing; to call it is to cite it.
+pub use jdwp_frames::laws::{frames_stay_true, keeps_what_each_call_keeps};
 pub use jdwp_link::{settles_each_ticket_once, tells_what_the_target_gave};
 pub use jdwp_model::{
     answers_one_that_waits, counts_at_most, defers_few_commands, frames_read_stay_true,

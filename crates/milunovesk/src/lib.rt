@@ -73,9 +73,10 @@ pub use jdwp_attach::{
 pub use jdwp_end::{Ended, Pipe, Streams};
 pub use jdwp_engine::{serve, serve_script, serve_session};
 
-// A client: a debugger that asks, and waits for answers and events; and one at an address.
+// A client: a debugger that asks, and waits for answers and events; one at an address; and one that keeps frames.
 pub use jdwp_client as client;
 pub use jdwp_client_port::{ConnectFault, Connection, connect};
+pub use jdwp_frames::FrameClient;
 
 // Live sessions: a target whose threads step while a debugger is there.
 pub use jdwp_live::{Came, LivePipe, LiveStreams, Patience, PatientRead, serve_live};
