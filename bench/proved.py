@@ -114,7 +114,7 @@ jdwp_recording | Direction::come without data; Direction::next some none | Of on
 
 jdwp_machine | Machine::next; Machine::step; Machine::query memory; Machine lawful | A machine does what its meaning says, which keeps the laws; refusing takes no memory
 jdwp_script | Script::read value; Script::read_with value | A script is exactly the JSON value that the text is, or its first fault is told; want of memory may hide that
-jdwp_script_machine | ScriptMachine::read value live; scripts_are_lawful; scripts_begin_soundly; scripts_go_on; loops_go_on_for_ever | A script's machine is lawful, has a live thread, and can make each step that is left; an `again` has no last one
+jdwp_script_machine | ScriptMachine::read value live; scripts_are_lawful; scripts_begin_soundly; scripts_go_on; loops_go_on_for_ever | A script's machine is lawful, has a live thread, and can make each step that is left; loops never run out
 jdwp_attach | read_plan; read_attach_plan; reads_each_form | Each line of a plan is read as exactly what it says, or the first that says nothing is told; want of memory hides no fault of a line before
 jdwp_plan_run | run_plan | Lines in words are carried out in order, each once, up to the one at which the run ends; an `expect` passes exactly where the text told is that text
 
