@@ -17,9 +17,12 @@ int main(int count, char **words) {
         memcpy(stream + number * LENGTH, packet, LENGTH);
     unsigned long passes = strtoul(words[1], NULL, 10), found = 0;
     for (unsigned long pass = 0; pass < passes; pass++) {
-        mv_framed framed = {0};
-        for (size_t place = 0; mv_next_packet(stream + place, sizeof stream - place, &framed) == MV_DONE && framed.kind == MV_FRONT_COMMAND; place += framed.length)
+        const uint8_t *at = stream, *end = stream + sizeof stream;
+        mv_framed framed = mv_packet_in_front(at, sizeof stream);
+        for (; framed.kind == MV_FRONT_COMMAND; framed = mv_packet_in_front(at, (size_t)(end - at))) {
+            at += framed.length;
             found++;
+        }
     }
     printf("%lu found\n", found);
     return 0;

@@ -1,8 +1,8 @@
 #!/usr/bin/env python3
 """How fast the library is from C, beside the same in Rattle, in one run, one in turn with the other.
 
-- frames: `mv_next_packet` over a stream of 50,000 commands in memory, 400 times (`frames.c`), and `next_packet` of jdwp_wire by a program that
-  stands below, which is proved and built for it;
+- frames: `mv_packet_in_front`, which reads the header of a whole packet in the caller and calls `mv_next_packet` for all else, over a stream of 50,000
+  commands in memory, 400 times (`frames.c`), and `next_packet` of jdwp_wire by a program that stands below, which is proved and built for it;
 - packets: `mv_next_packets` over the same stream, 256 places a call, and the fields read by the functions of milunovesk.h (`packets.c`), and `next_packet` in the same
   program, 400 times; both add up all fields of each packet's header, and the length and place of its data;
 - both ends: a million SuspendCounts, 64 at a time, asked and answered in one process (`both_ends.c`), and `both_ends bytes` of crates/both_ends, whose commands are

@@ -1,7 +1,8 @@
 /* A reader of packets and of captures in plain C, written from the specification of JDWP and docs/CAPTURES.md alone, against mv_next_packet and
  * mv_check: on random bytes both have to read the same packet, and of random captures, most of which go wrong somewhere, to name the same first fault in
  * the same line. No widths of ids are told in these captures, and the commands are of sets that JDWP does not have, so data are not judged. And of random
- * bytes mv_next_packets has to tell the places where mv_next_packet finds packets, and the header's own functions to read of them what that tells. */
+ * bytes mv_next_packets has to tell the places where mv_next_packet finds packets, and the header's own functions to read of them, and
+ * mv_packet_in_front to tell, what that tells. */
 #include "milunovesk.h"
 
 #include <stdio.h>
@@ -188,7 +189,13 @@ static void make_capture(void) {
     if (below(20) == 0) text[below((uint32_t)size)] = "x>< \n0"[below(6)];
 }
 
-/* The packet in front of random bytes, read twice. */
+/* Whether two packets are told alike. */
+static bool are_alike(const mv_framed *one, const mv_framed *other) {
+    return one->kind == other->kind && one->set == other->set && one->number == other->number && one->error == other->error && one->fault == other->fault &&
+           one->id == other->id && one->length == other->length;
+}
+
+/* The packet in front of random bytes, read three times. */
 static bool same_front(void) {
     uint8_t bytes[24];
     mv_framed out = {0};
@@ -198,6 +205,8 @@ static bool same_front(void) {
     if (below(2)) bytes[3] = (uint8_t)(8 + below(20));
     if (below(4)) bytes[8] = (uint8_t)(below(2) * 128);
     if (mv_next_packet(bytes, size_of, &out) != MV_DONE) return false;
+    mv_framed here = mv_packet_in_front(bytes, size_of);
+    if (!are_alike(&out, &here)) return false;
     uint32_t length = four(bytes);
     if (size_of < 4) return out.kind == MV_FRONT_MORE;
     if (length < 11) return out.kind == MV_FRONT_FAULT && out.fault == 1;

@@ -144,6 +144,27 @@ static inline uint8_t mv_packet_number(const uint8_t *at) { return at[10]; }
 /* The error code of a reply, 0 for none; of a command it means nothing. Reads the header of a whole packet, at a place that was told. */
 static inline uint16_t mv_packet_error(const uint8_t *at) { return (uint16_t)(at[9] << 8 | at[10]); }
 
+/* What mv_next_packet tells. The header of a whole packet is read here, without a call. */
+static inline mv_framed mv_packet_in_front(const uint8_t *bytes, size_t length) {
+    mv_framed front = {0, 0, 0, 0, 0, 0, 0};
+    size_t whole = 0;
+    if (length < 11 || (bytes[8] != 0 && bytes[8] != 0x80) || (whole = mv_packet_length(bytes)) < 11 || whole > 65536 || whole > length) {
+        (void)mv_next_packet(bytes, length, &front);
+        return front;
+    }
+    front.id = mv_packet_id(bytes);
+    front.length = (uint32_t)whole;
+    if (mv_packet_is_reply(bytes)) {
+        front.kind = MV_FRONT_REPLY;
+        front.error = mv_packet_error(bytes);
+    } else {
+        front.kind = MV_FRONT_COMMAND;
+        front.set = mv_packet_set(bytes);
+        front.number = mv_packet_number(bytes);
+    }
+    return front;
+}
+
 /* ---- names and texts, which are not ended by a zero: `needed` is how many bytes they have */
 
 /* Moves the name of the command of this set and number, as mv_show prints it ("VirtualMachine.Suspend"), to the front of `out`, `needed` bytes.
