@@ -4,8 +4,12 @@
 #[cfg(test)]
 mod asserts;
 #[cfg(test)]
+mod breaking_tests;
+#[cfg(test)]
 mod peer_tests;
 mod prompt;
+#[cfg(test)]
+mod runs;
 mod streams;
 #[cfg(test)]
 mod tests;

@@ -1,9 +1,5 @@
 //! Runs of the program without files between its ends.
-use crate::asserts::expect_same_for;
-use crate::tests::{MACHINE, is_refused, is_run, is_told, remove, write};
-use std::net::Net;
-use std::process::Abort;
-use std::rt::{Clock, Files};
+use crate::runs::{Holds, MACHINE, SCENE, Scene, Tells, go};
 
 /// A breakpoint that suspends all threads, then Resume; and the mirror once it was reached.
 const PLAN: &str = "ask 15 1 0202000000010701000000000000000a00000000000000140000000000000003
@@ -34,20 +30,6 @@ thread 1 1+ held
 request 1 2 2
 ";
 
-/// Over memory and over a connection the same is printed.
-#[test]
-fn both_ends_run_a_plan(rt: HostRuntime) {
-    let (machine, plan) = ("pair_machine", "pair_plan");
-    write(&rt, machine, MACHINE.as_bytes());
-    write(&rt, plan, PLAN.as_bytes());
-    let words = ["pair", machine, plan, "--memory", "--start", "all"];
-    is_run(&rt, &words, 0, PRINTED, "");
-    is_run(&rt, &["pair", machine, plan], 0, PRINTED, "");
-    let words = ["pair", machine, plan, "--order", "apart"];
-    is_run(&rt, &words, 0, APART, "");
-    remove(&rt, &[machine, plan]);
-}
-
 /// All threads are suspended; both ends lose the connection; and in the next session nobody is.
 const LOSSES: &str = "ask 1 8
 answers
@@ -70,18 +52,6 @@ const LOST: &str = "< hello
 thread 1 0 free
 ";
 
-#[test]
-fn both_ends_begin_anew(rt: HostRuntime) {
-    let (machine, plan) = ("loss_machine", "loss_plan");
-    write(&rt, machine, MACHINE.as_bytes());
-    write(&rt, plan, LOSSES.as_bytes());
-    let words = ["pair", machine, plan, "--start", "none"];
-    is_run(&rt, &words, 0, LOST, "");
-    let words = ["pair", machine, plan, "--start", "none", "--memory"];
-    is_run(&rt, &words, 0, LOST, "");
-    remove(&rt, &[machine, plan]);
-}
-
 /// The signature and the status of a class are asked, and then which threads there are.
 const THREE: &str = "ask 2 1 000000000000000a
 ask 2 9 000000000000000a
@@ -98,97 +68,244 @@ const DEFERRED: &str = "< hello
 < 2 reply ReferenceType.Signature 0 \"LMain;\"
 ";
 
-#[test]
-fn a_target_defers_replies(rt: HostRuntime) {
-    let (machine, plan) = ("defer_machine", "defer_plan");
-    write(&rt, machine, MACHINE.as_bytes());
-    write(&rt, plan, THREE.as_bytes());
-    let words = ["pair", machine, plan, "--start", "all", "--defer"];
-    is_run(&rt, &words, 0, DEFERRED, "");
-    let words = ["pair", machine, plan, "--memory", "--defer"];
-    is_run(&rt, &words, 0, DEFERRED, "");
-    remove(&rt, &[machine, plan]);
-}
-
 /// A command that no target has is told with its line.
-#[test]
-fn a_line_that_is_refused_is_told(rt: HostRuntime) {
-    let (machine, plan) = ("pair_other_machine", "pair_other_plan");
-    write(&rt, machine, MACHINE.as_bytes());
-    write(&rt, plan, b"ask 1 8\nanswers\nask 1 99\n");
-    let words = ["pair", machine, plan, "--memory", "--start", "none"];
-    let printed = "< hello
+const REFUSED: &str = "ask 1 8\nanswers\nask 1 99\n";
+
+const PRINTED_BEFORE: &str = "< hello
 < 1 Event.Composite 0 [(90, 0, #1)]
 < 1 reply VirtualMachine.IDSizes 0 8 8 8 8 8
 < 2 reply VirtualMachine.Suspend 0
 ";
-    let told =
-        "jdwp: line 3 of the plan: fault 36: a command that no target has, or data that do not read in its layout\n";
-    is_run(&rt, &words, 1, printed, told);
-    remove(&rt, &[machine, plan]);
-}
 
-/// A script and a plan that are refused are told with their files, the script first.
-#[test]
-fn files_of_both_ends_are_judged(rt: HostRuntime) {
-    let (machine, plan) = ("pair_bad_machine", "pair_bad_plan");
-    write(&rt, machine, b"{");
-    write(&rt, plan, b"asks\n");
-    let words = ["pair", machine, plan, "--memory"];
-    assert!(rt; is_refused(&rt, &words, &["pair_bad_machine: fault 21: "]));
-    write(&rt, machine, MACHINE.as_bytes());
-    assert!(rt; is_refused(&rt, &words, &["pair_bad_plan: line 1 of the plan: "]));
-    remove(&rt, &[machine, plan]);
-}
-
-/// Plans that stand still, and what is told of each.
-static STANDSTILLS: [(&str, &str); 4] = [
-    (
-        "events 9\n",
-        "jdwp: nothing more can happen: line 1 of the plan waits for 9 composites of the session\n",
-    ),
-    (
-        "lose target\nask 1 4\nanswers\n",
-        "jdwp: nothing more can happen: line 3 of the plan waits for the answers to what was asked\n",
-    ),
-    (
-        "lose target\nattach\n",
-        "jdwp: nothing more can happen: line 2 of the plan waits for both ends to be closed, with no command that waits, in a machine that lives\n",
-    ),
-    (
-        "lose target\nask 1 4\n",
-        "jdwp: nothing more can happen: behind its last line the plan waits for the answers to what was asked\n",
-    ),
+/// Runs of both ends, over memory and over a connection.
+static BOTH_ENDS: [Scene; 10] = [
+    Scene {
+        files: &[
+            ("pair_machine", Holds::Text(MACHINE)),
+            ("pair_plan", Holds::Text(PLAN)),
+        ],
+        words: "pair pair_machine pair_plan --memory --start all",
+        prints: Some(PRINTED),
+        ..SCENE
+    },
+    Scene {
+        files: &[
+            ("pair_machine", Holds::Text(MACHINE)),
+            ("pair_plan", Holds::Text(PLAN)),
+        ],
+        words: "pair pair_machine pair_plan",
+        prints: Some(PRINTED),
+        ..SCENE
+    },
+    Scene {
+        files: &[
+            ("pair_machine", Holds::Text(MACHINE)),
+            ("pair_plan", Holds::Text(PLAN)),
+        ],
+        words: "pair pair_machine pair_plan --order apart",
+        prints: Some(APART),
+        ..SCENE
+    },
+    Scene {
+        files: &[
+            ("loss_machine", Holds::Text(MACHINE)),
+            ("loss_plan", Holds::Text(LOSSES)),
+        ],
+        words: "pair loss_machine loss_plan --start none",
+        prints: Some(LOST),
+        ..SCENE
+    },
+    Scene {
+        files: &[
+            ("loss_machine", Holds::Text(MACHINE)),
+            ("loss_plan", Holds::Text(LOSSES)),
+        ],
+        words: "pair loss_machine loss_plan --start none --memory",
+        prints: Some(LOST),
+        ..SCENE
+    },
+    Scene {
+        files: &[
+            ("defer_machine", Holds::Text(MACHINE)),
+            ("defer_plan", Holds::Text(THREE)),
+        ],
+        words: "pair defer_machine defer_plan --start all --defer",
+        prints: Some(DEFERRED),
+        ..SCENE
+    },
+    Scene {
+        files: &[
+            ("defer_machine", Holds::Text(MACHINE)),
+            ("defer_plan", Holds::Text(THREE)),
+        ],
+        words: "pair defer_machine defer_plan --memory --defer",
+        prints: Some(DEFERRED),
+        ..SCENE
+    },
+    Scene {
+        files: &[
+            ("pair_other_machine", Holds::Text(MACHINE)),
+            ("pair_other_plan", Holds::Text(REFUSED)),
+        ],
+        words: "pair pair_other_machine pair_other_plan --memory --start none",
+        status: 1,
+        prints: Some(PRINTED_BEFORE),
+        tells: Tells::Exactly(
+            "jdwp: line 3 of the plan: fault 36: a command that no target has, or data that do not read in its layout\n",
+        ),
+        ..SCENE
+    },
+    // A script and a plan that are refused are told with their files, the script first.
+    Scene {
+        files: &[
+            ("pair_bad_machine", Holds::Text("{")),
+            ("pair_bad_plan", Holds::Text("asks\n")),
+        ],
+        words: "pair pair_bad_machine pair_bad_plan --memory",
+        status: 1,
+        tells: Tells::All(&["pair_bad_machine: fault 21: "]),
+        ..SCENE
+    },
+    Scene {
+        files: &[
+            ("pair_bad_machine", Holds::Text(MACHINE)),
+            ("pair_bad_plan", Holds::Text("asks\n")),
+        ],
+        words: "pair pair_bad_machine pair_bad_plan --memory",
+        status: 1,
+        tells: Tells::All(&["pair_bad_plan: line 1 of the plan: "]),
+        ..SCENE
+    },
 ];
 
-/// The plan stands still, and this is told.
-fn stands_still<R: Files + Clock + Net + AllocGlobal + Abort>(rt: &R, plan: &str, told: &str) {
-    let (machine, file) = ("still_machine", "still_plan");
-    write(rt, machine, MACHINE.as_bytes());
-    write(rt, file, plan.as_bytes());
-    for between in [
-        &["pair", machine, file][..],
-        &["pair", machine, file, "--memory"],
-    ] {
-        expect_same_for(rt, &is_told(rt, between, 4, told), &true, &plan);
-    }
-    remove(rt, &[machine, file]);
+#[test]
+fn both_ends_run_a_plan(rt: HostRuntime) {
+    go(&rt, &BOTH_ENDS);
 }
 
-/// Where nothing more can happen, the line of the plan that waits is told, and for what.
+/// Plans that stand still: the line of the plan that waits is told, and for what.
+static STANDSTILLS: [Scene; 8] = [
+    Scene {
+        files: &[
+            ("still_machine", Holds::Text(MACHINE)),
+            ("still_plan", Holds::Text("events 9\n")),
+        ],
+        words: "pair still_machine still_plan",
+        status: 4,
+        prints: None,
+        tells: Tells::Exactly(
+            "jdwp: nothing more can happen: line 1 of the plan waits for 9 composites of the session\n",
+        ),
+        ..SCENE
+    },
+    Scene {
+        files: &[
+            ("still_machine", Holds::Text(MACHINE)),
+            ("still_plan", Holds::Text("events 9\n")),
+        ],
+        words: "pair still_machine still_plan --memory",
+        status: 4,
+        prints: None,
+        tells: Tells::Exactly(
+            "jdwp: nothing more can happen: line 1 of the plan waits for 9 composites of the session\n",
+        ),
+        ..SCENE
+    },
+    Scene {
+        files: &[
+            ("still_machine", Holds::Text(MACHINE)),
+            ("still_plan", Holds::Text("lose target\nask 1 4\nanswers\n")),
+        ],
+        words: "pair still_machine still_plan",
+        status: 4,
+        prints: None,
+        tells: Tells::Exactly(
+            "jdwp: nothing more can happen: line 3 of the plan waits for the answers to what was asked\n",
+        ),
+        ..SCENE
+    },
+    Scene {
+        files: &[
+            ("still_machine", Holds::Text(MACHINE)),
+            ("still_plan", Holds::Text("lose target\nask 1 4\nanswers\n")),
+        ],
+        words: "pair still_machine still_plan --memory",
+        status: 4,
+        prints: None,
+        tells: Tells::Exactly(
+            "jdwp: nothing more can happen: line 3 of the plan waits for the answers to what was asked\n",
+        ),
+        ..SCENE
+    },
+    Scene {
+        files: &[
+            ("still_machine", Holds::Text(MACHINE)),
+            ("still_plan", Holds::Text("lose target\nattach\n")),
+        ],
+        words: "pair still_machine still_plan",
+        status: 4,
+        prints: None,
+        tells: Tells::Exactly(
+            "jdwp: nothing more can happen: line 2 of the plan waits for both ends to be closed, with no command that waits, in a machine that lives\n",
+        ),
+        ..SCENE
+    },
+    Scene {
+        files: &[
+            ("still_machine", Holds::Text(MACHINE)),
+            ("still_plan", Holds::Text("lose target\nattach\n")),
+        ],
+        words: "pair still_machine still_plan --memory",
+        status: 4,
+        prints: None,
+        tells: Tells::Exactly(
+            "jdwp: nothing more can happen: line 2 of the plan waits for both ends to be closed, with no command that waits, in a machine that lives\n",
+        ),
+        ..SCENE
+    },
+    Scene {
+        files: &[
+            ("still_machine", Holds::Text(MACHINE)),
+            ("still_plan", Holds::Text("lose target\nask 1 4\n")),
+        ],
+        words: "pair still_machine still_plan",
+        status: 4,
+        prints: None,
+        tells: Tells::Exactly(
+            "jdwp: nothing more can happen: behind its last line the plan waits for the answers to what was asked\n",
+        ),
+        ..SCENE
+    },
+    Scene {
+        files: &[
+            ("still_machine", Holds::Text(MACHINE)),
+            ("still_plan", Holds::Text("lose target\nask 1 4\n")),
+        ],
+        words: "pair still_machine still_plan --memory",
+        status: 4,
+        prints: None,
+        tells: Tells::Exactly(
+            "jdwp: nothing more can happen: behind its last line the plan waits for the answers to what was asked\n",
+        ),
+        ..SCENE
+    },
+];
+
 #[test]
 fn a_plan_that_stands_still_is_told(rt: HostRuntime) {
-    for &(plan, told) in STANDSTILLS.iter() {
-        stands_still(&rt, plan, told);
-    }
+    go(&rt, &STANDSTILLS);
 }
 
 /// At a port where nobody listens there is no session: the first one is the system's own, which no test takes.
+static NOBODY: [Scene; 1] = [Scene {
+    files: &[("port_plan", Holds::Text("ask 1 8\n"))],
+    words: "attach port_plan --port 1",
+    status: 2,
+    tells: Tells::Exactly("jdwp: port 1: connection refused\n"),
+    ..SCENE
+}];
+
 #[test]
 fn a_port_where_nobody_listens_is_told(rt: HostRuntime) {
-    let plan = "port_plan";
-    write(&rt, plan, b"ask 1 8\n");
-    let words = ["attach", plan, "--port", "1"];
-    is_run(&rt, &words, 2, "", "jdwp: port 1: connection refused\n");
-    remove(&rt, &[plan]);
+    go(&rt, &NOBODY);
 }
