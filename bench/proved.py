@@ -143,7 +143,7 @@ TAIL = """\
 - Texts: the lines of `show` for every command, modifier and event; faults; the words of the command line; what is told of files, ports and outputs that fail.
 - Worked sessions, byte for byte: of a target, a debugger, a link (cut at every place, lost behind each byte), plans over files, ports, memory and a connection.
 - Peers that keep no rule: each fault at both ends; a session with each byte changed to each value; data cut at each byte; texts a million deep.
-- Each request for memory refused in turn, of each call (`memory_tests`) and command (`bench/refused_memory.py`); that want of memory comes only then, which no contract can say.
+- Each request for memory refused in turn, of each call (`link_tests`) and command (`bench/refused_memory.py`); that want of memory comes only then, which no contract can say.
 - Sockets, clocks and files: what goes through them, options, closing, which errors pass; the forms of recordings; that a `Loopback` prints as memory does; that no file that is read is emptied under another name; that a lost session is told by its error.
 - That `serve` flushes before a round releases or steps; that `attach` writes its handshake alone before the target's was read.
 

@@ -11,9 +11,9 @@ come: its fault with its number and words, but not where it stands, which is loo
     bench/refused_memory.py [--each] [PROGRAM]
     bench/refused_memory.py --tests [--each] [TESTS]
 
-With --tests it runs in the same way the tests of crates/memory_tests whose names end in `bears_one_refusal`, each in a process of its own: worked sessions, of which each call that was refused
+With --tests it runs in the same way the tests of crates/link_tests whose names end in `bears_one_refusal`, each in a process of its own: worked sessions, of which each call that was refused
 is done again. Each has to pass, whichever request is refused. With --each a line for each N says what came. PROGRAM is crates/jdwp/out/jdwp where none is given (`rt run` in crates/jdwp
-builds it), and TESTS is crates/memory_tests/out/memory_tests_tests (`rt test` there builds it).
+builds it), and TESTS is crates/link_tests/out/link_tests_tests (`rt test` there builds it).
 """
 
 import contextlib
@@ -342,7 +342,7 @@ def main():
     prints = "--each" in words
     of_tests = "--tests" in words
     named = [word for word in words if not word.startswith("--")]
-    home = "memory_tests/out/memory_tests_tests" if of_tests else "jdwp/out/jdwp"
+    home = "link_tests/out/link_tests_tests" if of_tests else "jdwp/out/jdwp"
     program = os.path.abspath(named[0] if named else os.path.join(ROOT, "crates", home))
     if not os.path.isfile(program):
         sys.exit(f"there is no {program}")

@@ -1,16 +1,12 @@
 //! What is done with a link, in few words, and the events that it is.
+use crate::memory::supply::Stop;
 use jdwp_debugger::Command;
-use jdwp_layout::event_kinds::{BREAKPOINT, SINGLE_STEP, THREAD_DEATH};
-use jdwp_layout::modifier_kinds::{COUNT, LOCATION_ONLY, STEP};
-use jdwp_layout::numbers::{
-    CLEAR_REQUEST, EVENT_REQUEST, EXIT, FRAMES, IS_OBSOLETE, METHOD, REFERENCE_TYPE, SET_REQUEST,
-    THREAD_REFERENCE, VIRTUAL_MACHINE,
-};
-use jdwp_layout::{Datum, Scalar};
+use jdwp_layout::{layout_of, numbers, read};
 use jdwp_link::LinkEvent;
-use jdwp_value::{Location, MethodId, ObjectId, ReferenceTypeId, TypeTag};
+use jdwp_value::ObjectId;
+use jdwp_wire::IdSizes;
 use std::alloc::Global;
-use std::process::Abort;
+use test_parts::commands;
 
 /// More bytes than are ever under way here.
 pub(crate) const ALL: usize = 65_536;
@@ -29,7 +25,7 @@ pub(crate) enum Wanted {
     /// Method.IsObsolete of method 20 of class 10.
     IsObsolete,
     /// ThreadReference.Frames: all of a thread.
-    FramesOf(u64),
+    FramesOf(u8),
     /// EventRequest.Set with this policy: breakpoints at index 3.
     Breakpoint(u8),
     /// The same, reported the second time that it is reached.
@@ -37,10 +33,10 @@ pub(crate) enum Wanted {
     /// EventRequest.Set with this policy: deaths of threads.
     Deaths(u8),
     /// EventRequest.Set with this policy: each step of this thread.
-    StepsOf(u64, u8),
+    StepsOf(u8, u8),
     /// EventRequest.Clear of the breakpoint under this id.
     Clear(i32),
-    /// ThreadReference.SuspendCount without data, which is none.
+    /// ThreadReference.Frames without data, which is none.
     Unfit,
 }
 
@@ -68,193 +64,184 @@ pub(crate) enum Act {
     Greet,
 }
 
-/// What the fields of a request's modifier at index 3 hold.
-fn at_three(rt: &impl Abort, alloc: Global) -> Vec<Scalar> {
-    let location = Location::At {
-        tag: TypeTag::Class,
-        class: ReferenceTypeId(10),
-        method: MethodId(20),
-        index: 3,
+/// The command whose data are these bytes, where ids have 8.
+fn of_bytes(alloc: Global, (set, number): (u8, u8), data: &[u8]) -> Result<Command, Stop> {
+    let (Some(row), Ok(sizes)) = (layout_of(set, number), IdSizes::new(8, 8, 8, 8, 8)) else {
+        return Err(Stop::Script);
     };
-    let fields = vec![in alloc; Scalar::Byte(LOCATION_ONLY), Scalar::Location(location)];
-    fields.expect(rt, "memory")
-}
-
-/// What the fields of a modifier for the second time hold.
-fn second_time(rt: &impl Abort, alloc: Global) -> Vec<Scalar> {
-    vec![in alloc; Scalar::Byte(COUNT), Scalar::Int(2)].expect(rt, "memory")
-}
-
-/// What the fields of a modifier for each step of a thread hold.
-fn each_step_of(rt: &impl Abort, alloc: Global, thread: u64) -> Vec<Scalar> {
-    let thread = Scalar::ObjectId(ObjectId(thread));
-    let fields = vec![in alloc; Scalar::Byte(STEP), thread, Scalar::Int(0), Scalar::Int(0)];
-    fields.expect(rt, "memory")
-}
-
-/// VirtualMachine's command of this number, without data.
-fn of_machine(alloc: Global, number: u8) -> Command {
-    Command::new(VIRTUAL_MACHINE, number, Vec::new(alloc))
-}
-
-/// The command of these numbers whose data is one scalar.
-fn with_one(rt: &impl Abort, alloc: Global, set: u8, number: u8, scalar: Scalar) -> Command {
-    let items = vec![in alloc; Datum::One(scalar)].expect(rt, "memory");
-    Command::new(set, number, items)
-}
-
-/// ThreadReference's command of this number, on a thread.
-fn of_thread(rt: &impl Abort, alloc: Global, number: u8, thread: u64) -> Command {
-    let thread = Scalar::ObjectId(ObjectId(thread));
-    with_one(rt, alloc, THREAD_REFERENCE, number, thread)
-}
-
-/// ReferenceType's command of this number, on a class.
-fn of_class(rt: &impl Abort, alloc: Global, number: u8, class: u64) -> Command {
-    let class = Scalar::ReferenceTypeId(ReferenceTypeId(class));
-    with_one(rt, alloc, REFERENCE_TYPE, number, class)
-}
-
-/// Method.IsObsolete of method 20 of class 10.
-fn is_obsolete(rt: &impl Abort, alloc: Global) -> Command {
-    let items = vec![in alloc;
-        Datum::One(Scalar::ReferenceTypeId(ReferenceTypeId(10))),
-        Datum::One(Scalar::MethodId(MethodId(20))),
-    ];
-    Command::new(METHOD, IS_OBSOLETE, items.expect(rt, "memory"))
-}
-
-/// ThreadReference.Frames: all of a thread.
-fn frames_of(rt: &impl Abort, alloc: Global, thread: u64) -> Command {
-    let items = vec![in alloc;
-        Datum::One(Scalar::ObjectId(ObjectId(thread))),
-        Datum::One(Scalar::Int(0)),
-        Datum::One(Scalar::Int(-1)),
-    ];
-    Command::new(THREAD_REFERENCE, FRAMES, items.expect(rt, "memory"))
-}
-
-/// EventRequest.Set of a kind, with this policy and these modifiers.
-fn request(
-    rt: &impl Abort,
-    alloc: Global,
-    kind: u8,
-    policy: u8,
-    modifiers: Vec<Vec<Scalar>>,
-) -> Command {
-    let items = vec![in alloc;
-        Datum::One(Scalar::Byte(kind)),
-        Datum::One(Scalar::Byte(policy)),
-        Datum::Many(modifiers),
-    ];
-    Command::new(EVENT_REQUEST, SET_REQUEST, items.expect(rt, "memory"))
-}
-
-/// EventRequest.Set with this policy: breakpoints at index 3.
-fn breakpoint(rt: &impl Abort, alloc: Global, policy: u8) -> Command {
-    let modifiers = vec![in alloc; at_three(rt, alloc)].expect(rt, "memory");
-    request(rt, alloc, BREAKPOINT, policy, modifiers)
-}
-
-/// The same, reported the second time that it is reached.
-fn second_breakpoint(rt: &impl Abort, alloc: Global, policy: u8) -> Command {
-    let place = at_three(rt, alloc);
-    let modifiers = vec![in alloc; place, second_time(rt, alloc)].expect(rt, "memory");
-    request(rt, alloc, BREAKPOINT, policy, modifiers)
-}
-
-/// EventRequest.Set with this policy: each step of this thread.
-fn steps_of(rt: &impl Abort, alloc: Global, thread: u64, policy: u8) -> Command {
-    let modifiers = vec![in alloc; each_step_of(rt, alloc, thread)].expect(rt, "memory");
-    request(rt, alloc, SINGLE_STEP, policy, modifiers)
-}
-
-/// EventRequest.Clear of the breakpoint under this id.
-fn clear(rt: &impl Abort, alloc: Global, id: i32) -> Command {
-    let items = vec![in alloc;
-        Datum::One(Scalar::Byte(BREAKPOINT)),
-        Datum::One(Scalar::Int(id)),
-    ];
-    Command::new(EVENT_REQUEST, CLEAR_REQUEST, items.expect(rt, "memory"))
-}
-
-/// The command that is wanted.
-pub(crate) fn command(rt: &impl Abort, alloc: Global, wanted: Wanted) -> Command {
-    match wanted {
-        Wanted::OfMachine(number) => of_machine(alloc, number),
-        Wanted::Exit => with_one(rt, alloc, VIRTUAL_MACHINE, EXIT, Scalar::Int(0)),
-        Wanted::OfThread(number, thread) => of_thread(rt, alloc, number, thread),
-        Wanted::OfClass(number, class) => of_class(rt, alloc, number, class),
-        Wanted::IsObsolete => is_obsolete(rt, alloc),
-        Wanted::FramesOf(thread) => frames_of(rt, alloc, thread),
-        Wanted::Breakpoint(policy) => breakpoint(rt, alloc, policy),
-        Wanted::SecondBreakpoint(policy) => second_breakpoint(rt, alloc, policy),
-        Wanted::Deaths(policy) => request(rt, alloc, THREAD_DEATH, policy, Vec::new(alloc)),
-        Wanted::StepsOf(thread, policy) => steps_of(rt, alloc, thread, policy),
-        Wanted::Clear(id) => clear(rt, alloc, id),
-        Wanted::Unfit => Command::new(THREAD_REFERENCE, FRAMES, Vec::new(alloc)),
+    let Some(layouts) = row.layouts else {
+        return Err(Stop::Script);
+    };
+    match read(alloc, &layouts.request, &sizes, data) {
+        Ok(items) => Ok(Command::new(set, number, items)),
+        Err(_) => Err(Stop::NoMemory),
     }
 }
 
-/// Appends one event.
-fn push(rt: &impl Abort, event: LinkEvent, events: &mut Vec<LinkEvent>) {
-    events.push(event).expect(rt, "memory");
+/// EventRequest.Set with this policy.
+fn request(alloc: Global, wanted: Wanted) -> Result<Command, Stop> {
+    let set = commands::SET_REQUEST;
+    match wanted {
+        Wanted::Breakpoint(policy) => of_bytes(
+            alloc,
+            set,
+            &[
+                2, policy, 0, 0, 0, 1, 7, 1, 0, 0, 0, 0, 0, 0, 0, 10, 0, 0, 0, 0, 0, 0, 0, 20, 0,
+                0, 0, 0, 0, 0, 0, 3,
+            ],
+        ),
+        Wanted::SecondBreakpoint(policy) => of_bytes(
+            alloc,
+            set,
+            &[
+                2, policy, 0, 0, 0, 2, 7, 1, 0, 0, 0, 0, 0, 0, 0, 10, 0, 0, 0, 0, 0, 0, 0, 20, 0,
+                0, 0, 0, 0, 0, 0, 3, 1, 0, 0, 0, 2,
+            ],
+        ),
+        Wanted::StepsOf(thread, policy) => of_bytes(
+            alloc,
+            set,
+            &[
+                1, policy, 0, 0, 0, 1, 10, 0, 0, 0, 0, 0, 0, 0, thread, 0, 0, 0, 0, 0, 0, 0, 0,
+            ],
+        ),
+        Wanted::Deaths(policy) => of_bytes(alloc, set, &[7, policy, 0, 0, 0, 0]),
+        _ => Err(Stop::Script),
+    }
+}
+
+/// The command that is wanted.
+pub(crate) fn command(alloc: Global, wanted: Wanted) -> Result<Command, Stop> {
+    match wanted {
+        Wanted::OfMachine(number) => of_bytes(alloc, (numbers::VIRTUAL_MACHINE, number), &[]),
+        Wanted::Exit => of_bytes(alloc, commands::EXIT, &[0, 0, 0, 0]),
+        Wanted::OfThread(number, thread) => of_bytes(
+            alloc,
+            (numbers::THREAD_REFERENCE, number),
+            &thread.to_be_bytes(),
+        ),
+        Wanted::OfClass(number, class) => of_bytes(
+            alloc,
+            (numbers::REFERENCE_TYPE, number),
+            &class.to_be_bytes(),
+        ),
+        Wanted::IsObsolete => of_bytes(
+            alloc,
+            commands::IS_OBSOLETE,
+            &[0, 0, 0, 0, 0, 0, 0, 10, 0, 0, 0, 0, 0, 0, 0, 20],
+        ),
+        Wanted::FramesOf(thread) => of_bytes(
+            alloc,
+            commands::FRAMES,
+            &[0, 0, 0, 0, 0, 0, 0, thread, 0, 0, 0, 0, 255, 255, 255, 255],
+        ),
+        Wanted::Clear(id) => {
+            let [first, second, third, last] = id.to_be_bytes();
+            let data = [2, first, second, third, last];
+            of_bytes(alloc, commands::CLEAR_REQUEST, &data)
+        }
+        Wanted::Unfit => {
+            let (set, number) = commands::FRAMES;
+            Ok(Command::new(set, number, Vec::new(alloc)))
+        }
+        _ => request(alloc, wanted),
+    }
 }
 
 /// Appends a command that is asked.
-fn push_ask(rt: &impl Abort, alloc: Global, wanted: Wanted, events: &mut Vec<LinkEvent>) {
-    push(rt, LinkEvent::Ask(command(rt, alloc, wanted)), events);
+fn push_ask(alloc: Global, wanted: Wanted, events: &mut Vec<LinkEvent>) -> Result<(), Stop> {
+    let command = command(alloc, wanted)?;
+    events.push(LinkEvent::Ask(command))?;
+    Ok(())
 }
 
-/// Appends the coming and handling of what the debugger put.
-fn push_handling(rt: &impl Abort, events: &mut Vec<LinkEvent>) {
-    push(rt, LinkEvent::ToTarget(ALL), events);
-    push(rt, LinkEvent::TargetTurn, events);
+/// What the debugger put comes and is handled.
+const HANDLING: [Act; 2] = [Act::ToTarget(ALL), Act::TargetTurn];
+
+/// What the target put comes, and one message of it is read.
+const READING: [Act; 2] = [Act::ToDebugger(ALL), Act::DebuggerTurn];
+
+/// The first, and then the second.
+const EXCHANGE: [Act; 4] = [
+    Act::ToTarget(ALL),
+    Act::TargetTurn,
+    Act::ToDebugger(ALL),
+    Act::DebuggerTurn,
+];
+
+/// What begins a session.
+const GREETING: [Act; 10] = [
+    Act::Attach,
+    Act::ToTarget(ALL),
+    Act::TargetTurn,
+    Act::ToDebugger(ALL),
+    Act::DebuggerTurn,
+    Act::DebuggerTurn,
+    Act::ToTarget(ALL),
+    Act::TargetTurn,
+    Act::ToDebugger(ALL),
+    Act::DebuggerTurn,
+];
+
+/// The events of these acts.
+pub(crate) fn events_of(alloc: Global, acts: &[Act]) -> Result<Vec<LinkEvent>, Stop> {
+    let mut events = Vec::new(alloc);
+    for act in acts {
+        push_events(alloc, act, &mut events)?;
+    }
+    Ok(events)
 }
 
-/// Appends the coming and reading of what the target put.
-fn push_reading(rt: &impl Abort, events: &mut Vec<LinkEvent>) {
-    push(rt, LinkEvent::ToDebugger(ALL), events);
-    push(rt, LinkEvent::DebuggerTurn, events);
+/// The event that an act is, which is one and asks nothing.
+fn event_of(act: &Act) -> Option<LinkEvent> {
+    match *act {
+        Act::Attach => Some(LinkEvent::Attach),
+        Act::ToTarget(count) => Some(LinkEvent::ToTarget(count)),
+        Act::ToDebugger(count) => Some(LinkEvent::ToDebugger(count)),
+        Act::TargetTurn => Some(LinkEvent::TargetTurn),
+        Act::DebuggerTurn => Some(LinkEvent::DebuggerTurn),
+        Act::Step(thread) => Some(LinkEvent::Step(ObjectId(thread))),
+        Act::TargetLoses => Some(LinkEvent::TargetLoses),
+        Act::DebuggerLoses => Some(LinkEvent::DebuggerLoses),
+        Act::Defer(deferring) => Some(LinkEvent::Defer(deferring)),
+        Act::Release(place) => Some(LinkEvent::Release(place)),
+        _ => None,
+    }
 }
 
-/// Appends the coming and handling of what the debugger put, and the coming and reading of what is sent then.
-fn push_exchange(rt: &impl Abort, events: &mut Vec<LinkEvent>) {
-    push_handling(rt, events);
-    push_reading(rt, events);
+/// Appends the events that acts are, each of which is one and asks nothing.
+fn push_plain(acts: &[Act], events: &mut Vec<LinkEvent>) -> Result<(), Stop> {
+    for act in acts {
+        if let Some(event) = event_of(act) {
+            events.push(event)?;
+        }
+    }
+    Ok(())
 }
 
-/// Appends what begins a session.
-fn push_greeting(rt: &impl Abort, events: &mut Vec<LinkEvent>) {
-    push(rt, LinkEvent::Attach, events);
-    push_exchange(rt, events);
-    push(rt, LinkEvent::DebuggerTurn, events);
-    push_exchange(rt, events);
+/// Appends a command that is asked, and then the events that these acts are.
+fn push_asked(
+    alloc: Global,
+    wanted: Wanted,
+    behind: &[Act],
+    events: &mut Vec<LinkEvent>,
+) -> Result<(), Stop> {
+    push_ask(alloc, wanted, events)?;
+    push_plain(behind, events)
 }
 
 /// Appends the events that an act is.
-pub(crate) fn push_events(rt: &impl Abort, alloc: Global, act: &Act, events: &mut Vec<LinkEvent>) {
+pub(crate) fn push_events(
+    alloc: Global,
+    act: &Act,
+    events: &mut Vec<LinkEvent>,
+) -> Result<(), Stop> {
     match *act {
-        Act::Attach => push(rt, LinkEvent::Attach, events),
-        Act::Ask(wanted) => push_ask(rt, alloc, wanted, events),
-        Act::ToTarget(count) => push(rt, LinkEvent::ToTarget(count), events),
-        Act::ToDebugger(count) => push(rt, LinkEvent::ToDebugger(count), events),
-        Act::TargetTurn => push(rt, LinkEvent::TargetTurn, events),
-        Act::DebuggerTurn => push(rt, LinkEvent::DebuggerTurn, events),
-        Act::Step(thread) => push(rt, LinkEvent::Step(ObjectId(thread)), events),
-        Act::TargetLoses => push(rt, LinkEvent::TargetLoses, events),
-        Act::DebuggerLoses => push(rt, LinkEvent::DebuggerLoses, events),
-        Act::Defer(deferring) => push(rt, LinkEvent::Defer(deferring), events),
-        Act::Release(place) => push(rt, LinkEvent::Release(place), events),
-        Act::Give(wanted) => {
-            push_ask(rt, alloc, wanted, events);
-            push_handling(rt, events);
-        }
-        Act::Read => push_reading(rt, events),
-        Act::Round(wanted) => {
-            push_ask(rt, alloc, wanted, events);
-            push_exchange(rt, events);
-        }
-        Act::Greet => push_greeting(rt, events),
+        Act::Ask(wanted) => push_ask(alloc, wanted, events),
+        Act::Give(wanted) => push_asked(alloc, wanted, &HANDLING, events),
+        Act::Round(wanted) => push_asked(alloc, wanted, &EXCHANGE, events),
+        Act::Read => push_plain(&READING, events),
+        Act::Greet => push_plain(&GREETING, events),
+        one => push_plain(&[one], events),
     }
 }

@@ -16,3 +16,13 @@ pub(crate) fn expect_same_for<A: PartialEq + Debug, N: Debug>(
 ) {
     assert_eq!(rt; *left, *right, "{note:?}");
 }
+
+/// Fails unless it holds, and tells what was tried.
+pub(crate) fn expect_that_for(rt: &impl Abort, holds: bool, note: &str) {
+    assert!(rt; holds, "{note}");
+}
+
+/// Fails unless the first is no less than the second.
+pub(crate) fn expect_at_least(rt: &impl Abort, found: u32, least: u32) {
+    assert!(rt; found >= least, "{found} refusals");
+}

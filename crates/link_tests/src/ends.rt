@@ -91,7 +91,7 @@ fn asks<M: Machine + Drop>(
     ticket: u64,
     turn: Turn,
 ) -> bool {
-    let command = command(rt, alloc, wanted);
+    let command = command(alloc, wanted).expect(rt, "memory");
     let is_given = debugger.ask(alloc, command) == Ok(Ticket(ticket));
     is_given && handles(rt, debugger, target) == turn
 }

@@ -1,5 +1,5 @@
-//! Worked sessions of a link, event by event, and connections that are lost at each byte: tests of `jdwp_link`, which call what anybody can
-//! call.
+//! Worked sessions of a link, event by event, connections that are lost at each byte, peers that keep no rule, and refused memory: tests that
+//! call what anybody can call.
 #![tactic(auto)]
 
 #[cfg(test)]
@@ -13,6 +13,8 @@ mod deferred_tests;
 #[cfg(test)]
 mod ends;
 #[cfg(test)]
+mod hostile;
+#[cfg(test)]
 mod idle_tests;
 #[cfg(test)]
 mod limit_tests;
@@ -22,6 +24,8 @@ mod loss_tests;
 mod losses;
 #[cfg(test)]
 mod machine_a;
+#[cfg(test)]
+mod memory;
 #[cfg(test)]
 mod sessions;
 #[cfg(test)]

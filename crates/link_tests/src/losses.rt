@@ -94,7 +94,7 @@ fn do_all<M: Machine + Drop>(
 ) {
     let mut events = Vec::new(alloc);
     for act in acts {
-        push_events(rt, alloc, act, &mut events);
+        push_events(alloc, act, &mut events).expect(rt, "memory");
     }
     run_events(rt, link, &events, told);
 }

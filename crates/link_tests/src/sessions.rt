@@ -176,7 +176,7 @@ fn does<M: Machine + Drop>(
     told: &mut Vec<Outcome>,
 ) {
     let mut events = Vec::new(alloc);
-    push_events(rt, alloc, act, &mut events);
+    push_events(alloc, act, &mut events).expect(rt, "memory");
     run_events(rt, link, &events, told);
 }
 
@@ -274,10 +274,10 @@ pub(crate) fn events_of(rt: &impl Abort, alloc: Global, lines: &[Line]) -> Vec<L
     let mut events = Vec::new(alloc);
     for line in lines {
         match line {
-            Line::Does(act) => push_events(rt, alloc, act, &mut events),
+            Line::Does(act) => push_events(alloc, act, &mut events).expect(rt, "memory"),
             Line::Repeats(times, act) => {
                 for _ in 0..*times {
-                    push_events(rt, alloc, act, &mut events);
+                    push_events(alloc, act, &mut events).expect(rt, "memory");
                 }
             }
             _ => {}

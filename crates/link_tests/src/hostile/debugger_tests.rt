@@ -1,6 +1,6 @@
 //! What a debugger answers to a target that keeps no rule, and how it stands then.
-use crate::asserts::expect_same_for;
-use crate::debuggers::debugger;
+use crate::asserts::{expect_same, expect_that_for};
+use crate::hostile::debuggers::debugger;
 use jdwp_debugger::{Command, Debugger, DebuggerFault, Read, Ticket};
 use jdwp_layout::{Answer, Datum, Scalar, numbers};
 use jdwp_value::ObjectId;
@@ -20,14 +20,14 @@ const START_ALL: &str = "0000001d 00000001 00 40 64 02 00000001 5a 00000000 0000
 const START_BAD: &str = "0000001d 00000001 00 40 64 03 00000001 5a 00000000 0000000000000001";
 
 /// What a turn tells that reads something.
-#[derive(Clone, Copy, Debug, PartialEq, Eq)]
+#[derive(Clone, Copy)]
 enum Tells {
     Parked,
     Seen,
 }
 
 /// What the target sends in a session.
-#[derive(Clone, Copy, Debug)]
+#[derive(Clone, Copy)]
 struct Row {
     /// Packets that are read, and what each tells.
     read: &'static [(&'static str, Tells)],
@@ -109,8 +109,8 @@ fn reads(
 ) -> bool {
     debugger.feed(&bytes(alloc, input).expect(rt, "memory"));
     match debugger.turn(alloc) {
-        Ok(Read::Parked) => told == Tells::Parked,
-        Ok(Read::Seen(_)) => told == Tells::Seen,
+        Ok(Read::Parked) => matches!(told, Tells::Parked),
+        Ok(Read::Seen(_)) => matches!(told, Tells::Seen),
         _ => false,
     }
 }
@@ -208,12 +208,12 @@ fn all_go(rt: &impl Abort, alloc: Global) {
     let mut debugger = debugger(rt, alloc);
     for row in EARLY.iter() {
         let is = goes_early(rt, alloc, &mut debugger, row);
-        expect_same_for(rt, &is, &true, row);
+        expect_that_for(rt, is, row.refused);
     }
     let mut first = 1u64;
     for row in LATE.iter() {
         let is = goes_late(rt, alloc, &mut debugger, row, first);
-        expect_same_for(rt, &is, &true, row);
+        expect_that_for(rt, is, row.refused);
         first = first.saturating_add(3);
     }
 }
@@ -234,10 +234,10 @@ fn faults_have_their_numbers(rt: HostRuntime) {
         (DebuggerFault::BadEvent, 45),
     ];
     for (fault, number) in rows {
-        expect_same_for(&rt, &fault.number(), &number, &fault);
+        expect_same(&rt, &fault.number(), &number);
     }
     let text = FrameFault::BadFlags.number();
-    expect_same_for(&rt, &text, &3, &"flags");
+    expect_same(&rt, &text, &3);
 }
 
 /// How many bytes came, and how many more are taken of two.
@@ -260,7 +260,8 @@ fn taken_behind(debugger: &mut Debugger, count: usize) -> usize {
 fn rooms_are_so(rt: &impl Abort, alloc: Global) {
     let mut debugger = debugger(rt, alloc);
     for &(count, want) in ROOMS.iter() {
-        expect_same_for(rt, &taken_behind(&mut debugger, count), &want, &count);
+        let taken = taken_behind(&mut debugger, count);
+        expect_same(rt, &(count, taken), &(count, want));
     }
 }
 
@@ -341,6 +342,6 @@ fn lists_of_very_many_threads(rt: HostRuntime) {
     for count in [0u32, 64, 65, 1_024, 1_025, 8_190] {
         ticket = ticket.saturating_add(1);
         let is = lists(&rt, rt.alloc(), &mut debugger, ticket, count);
-        expect_same_for(&rt, &is, &true, &count);
+        expect_same(&rt, &(count, is), &(count, true));
     }
 }

@@ -2,7 +2,7 @@
 ghost use Rattle.jdwp_target.specs.Options.{LivesWithin};
 ghost use Rattle.jdwp_wire.specs.Limits.{standard_limits};
 
-use crate::supply::{MOST_TIMES, Stop, Supply, push_line, push_same};
+use crate::memory::supply::{MOST_TIMES, Stop, Supply, push_line, push_same};
 use jdwp_debugger::Mirror;
 use jdwp_link::{Link, LinkEvent, Outcome};
 use jdwp_machine::Machine;

@@ -1,5 +1,5 @@
 //! Data that read, cut short at each byte: the codec answers that they are short, and where.
-use crate::asserts::{expect_same, expect_same_for};
+use crate::asserts::{expect_same, expect_that_for};
 use jdwp_layout::{Field, Item, Layout, layout_of, read};
 use jdwp_wire::{DataFault, IdSizes};
 use std::alloc::Global;
@@ -7,7 +7,7 @@ use std::process::Abort;
 use test_parts::{bytes, commands};
 
 /// Whose data they are.
-#[derive(Clone, Copy, Debug)]
+#[derive(Clone, Copy)]
 enum Of {
     /// This command.
     Command((u8, u8)),
@@ -298,7 +298,7 @@ fn is_short(rt: &impl Abort, alloc: Global, vector: &Vector) {
     let (of, width, hex) = *vector;
     let sizes = IdSizes::new(width, width, width, width, width).expect(rt, "widths of ids");
     let data = bytes(alloc, hex).expect(rt, "memory");
-    expect_same_for(rt, &data.is_empty(), &false, &of);
+    expect_that_for(rt, !data.is_empty(), hex);
     is_short_at_each_front(rt, alloc, &layout(rt, of), &sizes, &data);
 }
 

@@ -1,14 +1,14 @@
 //! The recorded session with one byte of what the debugger sends changed, at each place and to each other value, in sessions of one target.
-use crate::asserts::expect_same;
-use crate::recorded::{ANSWERED, ASKED, COMMANDS_BEGIN, place_in};
-use crate::targets::{Course, Target, handled, is_lost, target};
+use crate::asserts::{expect_same, expect_that_for};
+use crate::hostile::recorded::{ANSWERED, ASKED, COMMANDS_BEGIN, place_in};
+use crate::hostile::targets::{Course, Target, handled, is_lost, target};
 use jdwp_target::TargetFault;
 use jdwp_wire::FrameFault;
 use std::alloc::Global;
 use std::process::Abort;
 
 /// What is to come of a changed byte.
-#[derive(Clone, Copy, Debug, PartialEq, Eq)]
+#[derive(Clone, Copy)]
 enum Comes {
     /// The session is lost with this fault.
     Fails(FrameFault),
@@ -160,9 +160,9 @@ fn is_undisturbed(target: &mut Target, want: &[u8]) -> bool {
 /// Each change comes to what it is to come to, between two undisturbed sessions.
 fn survives(rt: &impl Abort, alloc: Global) {
     let mut target = target(rt, alloc);
-    expect_same(rt, &is_undisturbed(&mut target, &ANSWERED), &true);
+    expect_that_for(rt, is_undisturbed(&mut target, &ANSWERED), "before");
     expect_same(rt, &first_wrong(&mut target), &None);
-    expect_same(rt, &is_undisturbed(&mut target, &answers()), &true);
+    expect_that_for(rt, is_undisturbed(&mut target, &answers()), "behind");
 }
 
 /// 16,830 sessions between two undisturbed ones.

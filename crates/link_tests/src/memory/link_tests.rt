@@ -1,8 +1,8 @@
 //! Lists of events of a link, one request for memory refused after the other.
+use crate::acts::{ALL, Act, Wanted, events_of};
 use crate::asserts::{expect_at_least, expect_same};
-use crate::link_events::{ALL, Act, Wanted, events_of};
-use crate::links::{Ways, run_on_a, stands_on_a};
-use crate::supply::Stop;
+use crate::memory::links::{Ways, run_on_a, stands_on_a};
+use crate::memory::supply::Stop;
 use jdwp_layout::numbers::{
     ALL_THREADS, DISPOSE, HOLD_EVENTS, RELEASE_EVENTS, RESUME, RESUME_THREAD, SUSPEND,
     SUSPEND_COUNT,

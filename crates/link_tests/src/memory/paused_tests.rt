@@ -1,9 +1,9 @@
 //! Steps of a link whose target is paused, where no memory is left.
 ghost use Rattle.jdwp_target.specs.Options.{Lives};
 
+use crate::acts::{ALL, Act, Wanted, events_of};
 use crate::asserts::expect_same;
-use crate::link_events::{ALL, Act, Wanted, events_of};
-use crate::supply::{Stop, Supply};
+use crate::memory::supply::{Stop, Supply};
 use jdwp_layout::numbers::ALL_THREADS;
 use jdwp_link::{Link, LinkEvent};
 use jdwp_machine::Machine;

@@ -1,8 +1,8 @@
 //! Requests that are refused one after the other.
-use crate::scarce::Scarce;
 use std::alloc::{AllocError, Global};
 use std::process::Abort;
 use std::test::Fail;
+use test_parts::Scarce;
 
 /// What a call asks for, in order; what the third request got is given back before the fourth.
 const REQUESTS: usize = 5;

@@ -1,14 +1,14 @@
 //! Sessions of a target whose turns and steps are refused.
 use crate::asserts::{expect_at_least, expect_same};
-use crate::supply::{Stop, Supply};
-use crate::target_lists::{
+use crate::memory::supply::{Stop, Supply};
+use crate::memory::target_lists::{
     A_BREAKPOINT_THAT_COUNTS_REPORTS_ONCE, A_DEATH_IS_REPORTED_BEFORE_THE_END,
     A_STEP_AND_A_BREAKPOINT_REPORT_TOGETHER, A_STEP_INTO_BY_LINE, A_STEP_OVER_BY_LINE,
     EACH_KIND_IS_REPORTED_ONCE, EVENT_REQUESTS_THAT_ARE_REFUSED, FRAMES_OF_A_SUSPENDED_THREAD,
     REQUESTS_ARE_CLEARED_BY_KIND_AND_ID, SLOTS_ARE_WRITTEN_AND_READ, SUSPENDS_AND_RESUMES,
     THE_LAST_END_IS_THE_MACHINES, TWO_BREAKPOINTS_OF_ONE_PLACE_REPORT_TOGETHER,
 };
-use crate::targets::{Act, Target, done, greet, target};
+use crate::memory::targets::{Act, Target, done, greet, target};
 use std::alloc::Global;
 use std::process::Abort;
 use test_parts::{ALL_KINDS, MACHINE_A, WITH_A_SLOT};

@@ -3,7 +3,7 @@ ghost use Rattle.jdwp_target.specs.Options.{LivesWithin};
 ghost use Rattle.jdwp_wire.specs.Limits.{standard_limits};
 
 use crate::asserts::{expect_at_least, expect_same};
-use crate::supply::{MOST_TIMES, Stop};
+use crate::memory::supply::{MOST_TIMES, Stop};
 use jdwp_debugger::Debugger;
 use jdwp_link::Link;
 use jdwp_machine::Machine;

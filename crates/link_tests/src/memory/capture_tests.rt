@@ -1,6 +1,6 @@
 //! Captures and scripts whose reading is refused.
 use crate::asserts::{expect_at_least, expect_same};
-use crate::supply::{MOST_TIMES, Stop, Supply, push_line};
+use crate::memory::supply::{MOST_TIMES, Stop, Supply, push_line};
 use jdwp_machine::Machine;
 use jdwp_script::ScriptFault;
 use jdwp_script_machine::ScriptMachine;

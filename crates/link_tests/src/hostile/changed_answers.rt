@@ -1,10 +1,10 @@
 //! What is to come of a changed byte in what the target sends, at the debugger, message by message.
-use crate::recorded::{ANSWERED, ANSWERS_BEGIN, place_in};
+use crate::hostile::recorded::{ANSWERED, ANSWERS_BEGIN, place_in};
 use jdwp_debugger::DebuggerFault;
 use jdwp_wire::FrameFault;
 
 /// What is to come of a changed byte.
-#[derive(Clone, Copy, Debug, PartialEq, Eq)]
+#[derive(Clone, Copy)]
 pub(crate) enum Comes {
     /// The session is closed with this fault; so many messages were read before.
     Fails(u32, DebuggerFault),

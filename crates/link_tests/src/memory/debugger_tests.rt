@@ -1,7 +1,7 @@
 //! Sessions of a debugger whose turns and commands are refused.
 use crate::asserts::{expect_at_least, expect_same};
-use crate::debuggers::{Act, Wanted, debugger, done};
-use crate::supply::{Stop, Supply};
+use crate::memory::debuggers::{Act, Wanted, debugger, done};
+use crate::memory::supply::{Stop, Supply};
 use jdwp_debugger::{Debugger, Order};
 use std::alloc::Global;
 use std::process::Abort;

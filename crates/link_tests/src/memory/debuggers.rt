@@ -1,5 +1,5 @@
 //! Sessions of a debugger, and the memory that its calls find.
-use crate::supply::{MOST_TIMES, Stop, Supply, push_line, push_same};
+use crate::memory::supply::{MOST_TIMES, Stop, Supply, push_line, push_same};
 use jdwp_debugger::{Command, Debugger, DebuggerFault, Order, Read, Refused, Ticket};
 use jdwp_layout::{Datum, Scalar, numbers};
 use jdwp_value::ObjectId;

@@ -1,5 +1,5 @@
 //! Sessions of a target, each with the bytes that it sends.
-use crate::targets::Act;
+use crate::memory::targets::Act;
 use jdwp_target::Stepped;
 
 /// Suspends and resumes of all and of one, which take no memory.

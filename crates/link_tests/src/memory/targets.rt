@@ -1,5 +1,5 @@
 //! Sessions of a target, and the memory that its calls find.
-use crate::supply::{MOST_TIMES, Stop, Supply, push_line, push_same};
+use crate::memory::supply::{MOST_TIMES, Stop, Supply, push_line, push_same};
 use jdwp_script_machine::ScriptMachine;
 use jdwp_target::{Stepped, TargetFault, TargetOptions, Turn};
 use jdwp_value::ObjectId;

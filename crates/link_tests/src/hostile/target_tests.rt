@@ -1,6 +1,6 @@
 //! What a target answers to a debugger that keeps no rule, and how it stands then.
-use crate::asserts::expect_same_for;
-use crate::targets::{Target, is_lost, target};
+use crate::asserts::{expect_same, expect_that_for};
+use crate::hostile::targets::{Target, is_lost, target};
 use jdwp_target::{TargetFault, Turn};
 use jdwp_value::ObjectId;
 use jdwp_wire::{ErrorCode, FrameFault};
@@ -66,7 +66,7 @@ fn is_refused(
     let beginning = bytes(alloc, BEGINNING).expect(rt, "memory");
     let input = bytes(alloc, row.0).expect(rt, "memory");
     let is = begins(target, &beginning) && fails(target, &input, row.1);
-    expect_same_for(rt, &is, &true, row);
+    expect_that_for(rt, is, row.0);
 }
 
 /// The same of each row, in sessions of one target.
@@ -127,11 +127,11 @@ fn all_change_nothing(rt: &impl Abort, alloc: Global) {
     let mut target = target(rt, alloc);
     let beginning = bytes(alloc, BEGINNING).expect(rt, "memory");
     let is = begins(&mut target, &beginning);
-    expect_same_for(rt, &is, &true, &"the beginning");
+    expect_that_for(rt, is, "the beginning");
     for &(hex, told, answered) in PACKETS.iter() {
         let input = bytes(alloc, hex).expect(rt, "memory");
         let is = changes_nothing(&mut target, &input, told, answered);
-        expect_same_for(rt, &is, &true, &hex);
+        expect_that_for(rt, is, hex);
     }
 }
 
@@ -161,7 +161,8 @@ fn taken_behind(target: &mut Target, count: usize) -> usize {
 fn rooms_are_so(rt: &impl Abort, alloc: Global) {
     let mut target = target(rt, alloc);
     for &(count, want) in ROOMS.iter() {
-        expect_same_for(rt, &taken_behind(&mut target, count), &want, &count);
+        let taken = taken_behind(&mut target, count);
+        expect_same(rt, &(count, taken), &(count, want));
     }
 }
 
@@ -203,5 +204,5 @@ fn stalls(rt: &impl Abort, alloc: Global) -> bool {
 /// A debugger that takes nothing is answered until 65,536 bytes wait, and again from 65,535 on.
 #[test]
 fn nothing_is_taken(rt: HostRuntime) {
-    expect_same_for(&rt, &stalls(&rt, rt.alloc()), &true, &"stalls");
+    expect_that_for(&rt, stalls(&rt, rt.alloc()), "stalls");
 }

@@ -1,8 +1,8 @@
 //! The recorded session with one byte of what the target sends changed, at each place and to each other value, in sessions of one debugger.
-use crate::asserts::expect_same;
-use crate::changed_answers::{Comes, expected};
-use crate::debuggers::debugger;
-use crate::recorded::{ANSWERED, ASKED};
+use crate::asserts::{expect_same, expect_that_for};
+use crate::hostile::changed_answers::{Comes, expected};
+use crate::hostile::debuggers::debugger;
+use crate::hostile::recorded::{ANSWERED, ASKED};
 use jdwp_debugger::{Command, Debugger, DebuggerFault, Read, Ticket};
 use jdwp_layout::{Datum, Scalar, numbers};
 use jdwp_value::ObjectId;
@@ -152,15 +152,18 @@ fn is_undisturbed(rt: &impl Abort, alloc: Global, debugger: &mut Debugger) -> bo
     let mut sent = [0; 67];
     let count = debugger.take(&mut sent);
     let is = all.fault.is_none() && all.messages == 6 && !debugger.is_open();
-    is && &sent[..count] == ASKED.as_slice() && debugger.lose().as_slice().is_empty()
+    let is_sent = sent.get(..count) == Some(ASKED.as_slice());
+    is && is_sent && debugger.lose().as_slice().is_empty()
 }
 
 /// Each change comes to what it is to come to, between two undisturbed sessions.
 fn survives(rt: &impl Abort, alloc: Global) {
     let mut debugger = debugger(rt, alloc);
-    expect_same(rt, &is_undisturbed(rt, alloc, &mut debugger), &true);
+    let before = is_undisturbed(rt, alloc, &mut debugger);
+    expect_that_for(rt, before, "before");
     expect_same(rt, &first_wrong(rt, alloc, &mut debugger), &None);
-    expect_same(rt, &is_undisturbed(rt, alloc, &mut debugger), &true);
+    let behind = is_undisturbed(rt, alloc, &mut debugger);
+    expect_that_for(rt, behind, "behind");
 }
 
 /// 28,305 sessions between two undisturbed ones.
