@@ -8,8 +8,6 @@ mod debugger;
 mod link;
 mod machine;
 mod target;
-#[cfg(test)]
-mod tests;
 
 pub use capture::first_faulty_line;
 pub use clients::{count_frames, frames_at_breakpoint, set_breakpoint, thread_at};

@@ -16,3 +16,8 @@ pub(crate) fn expect_same_for<A: PartialEq + Debug, N: Debug>(
 ) {
     assert_eq!(rt; *left, *right, "{note:?}");
 }
+
+/// Fails unless it holds.
+pub(crate) fn expect_that(rt: &impl Abort, holds: bool) {
+    assert!(rt; holds);
+}

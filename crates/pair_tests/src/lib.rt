@@ -1,4 +1,5 @@
-//! Runs of both ends by plans: tests of `jdwp_pair`, which call what anybody can call.
+//! Runs of both ends by plans, and plans, captures and faults that are told: tests of `jdwp_pair`, `jdwp_attach` and `jdwp_program`, which call
+//! what anybody can call.
 #![tactic(auto)]
 
 #[cfg(test)]
@@ -14,6 +15,10 @@ mod loss_tests;
 #[cfg(test)]
 mod pair_tests;
 #[cfg(test)]
+mod programs;
+#[cfg(test)]
 mod random_plans;
 #[cfg(test)]
 mod runs;
+#[cfg(test)]
+mod use_tests;

@@ -1,6 +1,6 @@
 //! Plans in which an end loses the connection, and in which sessions follow one another, line for line.
-use crate::runs::{CASE, Case, READY, passes, passes_over};
-use jdwp_pair::{Loopback, PairEnded};
+use crate::runs::{CASE, Case, READY};
+use jdwp_pair::PairEnded;
 
 /// All threads are suspended; both ends lose the connection; and in the next session nobody is.
 const LOST: Case = Case {
@@ -26,14 +26,9 @@ thread 1 0 free
     ..CASE
 };
 
-#[test]
-fn nobody_is_suspended_behind_a_loss(rt: HostRuntime) {
-    passes(&rt, rt.alloc(), &LOST);
-    passes_over(&rt, rt.alloc(), &mut Loopback::new(&rt), &LOST);
-}
-
 /// Runs behind losses that are done.
-pub(crate) static DONE: [Case; 5] = [
+pub(crate) static DONE: [Case; 6] = [
+    LOST,
     // The end of a plan loses what was lost before.
     Case {
         plan: "lose debugger\nlose target\nlose target\nlose debugger\nmirror",
@@ -170,27 +165,3 @@ pub(crate) static UNDONE: [Case; 6] = [
         ..CASE
     },
 ];
-
-#[test]
-fn runs_go_on_behind_a_loss(rt: HostRuntime) {
-    for case in DONE.iter() {
-        passes(&rt, rt.alloc(), case);
-    }
-}
-
-#[test]
-fn runs_end_behind_a_loss(rt: HostRuntime) {
-    for case in UNDONE.iter() {
-        passes(&rt, rt.alloc(), case);
-    }
-}
-
-/// Over a connection each of these runs ends and prints as over memory.
-#[test]
-fn connections_are_lost_and_made_anew(rt: HostRuntime) {
-    for cases in [DONE.as_slice(), UNDONE.as_slice()] {
-        for case in cases {
-            passes_over(&rt, rt.alloc(), &mut Loopback::new(&rt), case);
-        }
-    }
-}

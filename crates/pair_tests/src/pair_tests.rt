@@ -1,5 +1,6 @@
 //! Runs of both ends by plans over machine A, line for line.
 use crate::asserts::expect_same;
+use crate::loss_tests;
 use crate::runs::{CASE, Case, READY, Writer, passes, passes_over, run_script, run_text};
 use jdwp_attach::read_plan;
 use jdwp_debuggee::Settings;
@@ -33,14 +34,9 @@ request 1 2 2
     ..CASE
 };
 
-#[test]
-fn a_breakpoint_is_reached(rt: HostRuntime) {
-    passes(&rt, rt.alloc(), &WHOLE);
-    passes_over(&rt, rt.alloc(), &mut Loopback::new(&rt), &WHOLE);
-}
-
 /// Runs that are done.
-pub(crate) static DONE: [Case; 8] = [
+pub(crate) static DONE: [Case; 9] = [
+    WHOLE,
     Case {
         lines: READY,
         ..CASE
@@ -251,44 +247,19 @@ static UNWRITTEN: [Case; 5] = [
     },
 ];
 
+/// These runs end and print as they say over memory, and so they do over a connection.
 #[test]
-fn plans_are_run_to_their_end(rt: HostRuntime) {
-    for case in DONE.iter() {
-        passes(&rt, rt.alloc(), case);
-    }
-}
-
-#[test]
-fn refused_commands_end_a_run(rt: HostRuntime) {
-    for case in REFUSED.iter() {
-        passes(&rt, rt.alloc(), case);
-    }
-}
-
-#[test]
-fn rounds_are_limited(rt: HostRuntime) {
-    for case in LIMITED.iter() {
-        passes(&rt, rt.alloc(), case);
-    }
-}
-
-#[test]
-fn an_output_that_fails_ends_a_run(rt: HostRuntime) {
-    for case in UNWRITTEN.iter() {
-        passes(&rt, rt.alloc(), case);
-    }
-}
-
-/// Over a connection each of these runs ends and prints as over memory.
-#[test]
-fn a_connection_changes_nothing(rt: HostRuntime) {
+fn each_run_comes_to_what_is_said(rt: HostRuntime) {
     for cases in [
         DONE.as_slice(),
         REFUSED.as_slice(),
         LIMITED.as_slice(),
         UNWRITTEN.as_slice(),
+        loss_tests::DONE.as_slice(),
+        loss_tests::UNDONE.as_slice(),
     ] {
         for case in cases {
+            passes(&rt, rt.alloc(), case);
             passes_over(&rt, rt.alloc(), &mut Loopback::new(&rt), case);
         }
     }

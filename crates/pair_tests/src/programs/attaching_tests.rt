@@ -1,5 +1,5 @@
 //! Sessions of a debugger by a plan, byte for byte and line for line.
-use crate::asserts::{expect_same, expect_same_for};
+use crate::asserts::{expect_same, expect_same_for, expect_that};
 use jdwp_attach::{Attached, LineFault, PlanFault, read_plan};
 use jdwp_debugger::Order;
 use jdwp_end::{Ended, Streams};
@@ -328,7 +328,7 @@ static NO_PLANS: [(&str, usize, LineFault, &str); 4] = [
 fn begins_no_session(rt: &impl Abort, alloc: Global, plan: &str, line: usize, fault: LineFault) {
     let ran = run(alloc, plan, &FROM, 1000);
     expect_same_for(rt, &ran.result, &Err(PlanFault::Line(line, fault)), &plan);
-    assert!(rt; ran.to.is_empty() && ran.lines.is_empty());
+    expect_that(rt, ran.to.is_empty() && ran.lines.is_empty());
 }
 
 #[test]

@@ -1,5 +1,5 @@
 //! What is told, on writers in memory.
-use crate::asserts::{expect_same, expect_same_for};
+use crate::asserts::{expect_same, expect_same_for, expect_that};
 use jdwp_attach::{LineFault, PlanFault};
 use jdwp_end::Ended;
 use jdwp_port::{PortCause, PortFault};
@@ -635,7 +635,7 @@ fn losses_at_a_write_are_told(rt: HostRuntime) {
     let text = "jdwp: the connection is lost at a write\n";
     is_lost(&rt, alloc, by_write, (from, kept), None, text);
     let none_taken = write_failure(alloc, 3, ErrorKind::WriteZero);
-    assert!(&rt; none_taken.is_some());
+    expect_that(&rt, none_taken.is_some());
 }
 
 /// A line, the number of its refusal, and how it is told where so many commands may wait.

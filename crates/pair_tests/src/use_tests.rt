@@ -1,9 +1,11 @@
-//! Each of the callers, run once.
-use crate::{
+//! Each of the callers of `milunovesk_uses`, run once.
+use crate::asserts::{expect_same, expect_that};
+use milunovesk::{Debugger, Link, LinkEvent, ObjectId, Refused, TargetOptions};
+use milunovesk_uses::{
     OneStep, answer, ask_for_frames, first_faulty_line, one_step_target, settle, shown_count,
     shows_suspended,
 };
-use milunovesk::{Debugger, Link, LinkEvent, ObjectId, Refused, TargetOptions};
+use std::alloc::Global;
 use std::process::Abort;
 
 /// The thread of the machine.
@@ -33,7 +35,7 @@ fn a_capture_is_judged(rt: HostRuntime) {
     ];
     for (capture, want) in rows {
         let line = first_faulty_line(rt.alloc(), capture).expect(&rt, "memory");
-        assert_eq!(&rt; line, want);
+        expect_same(&rt, &line, &want);
     }
 }
 
@@ -43,8 +45,8 @@ fn a_target_over_ones_own_machine_answers(rt: HostRuntime) {
     target.accept();
     let mut out = [0; 64];
     let counts = answer(&mut target, b"JDWP-Handshake", &mut out).expect(&rt, "a handshake");
-    assert_eq!(&rt; counts, (14, 43));
-    assert!(&rt; out.starts_with(&GREETING));
+    expect_same(&rt, &counts, &(14, 43));
+    expect_that(&rt, out.starts_with(&GREETING));
 }
 
 /// Nothing can be asked of a debugger whose session has not begun.
@@ -52,7 +54,7 @@ fn a_target_over_ones_own_machine_answers(rt: HostRuntime) {
 fn a_closed_debugger_refuses_what_is_asked(rt: HostRuntime) {
     let mut debugger = Debugger::new(rt.alloc()).expect(&rt, "memory");
     let asked = ask_for_frames(rt.alloc(), &mut debugger, THREAD);
-    assert_eq!(&rt; asked.err(), Some(Refused::Closed));
+    expect_same(&rt, &asked.err(), &Some(Refused::Closed));
 }
 
 /// The handshake, VM_START and the widths of ids go from end to end; then the thread is shown as suspended.
@@ -69,24 +71,20 @@ const UNTIL_SHOWN: [LinkEvent; 10] = [
     LinkEvent::DebuggerTurn,
 ];
 
-#[test]
-fn a_thread_of_ones_own_machine_is_shown_suspended(rt: HostRuntime) {
-    let link = Link::new(rt.alloc(), OneStep::new(rt.alloc()), all_suspended(&rt)).expect(
-        &rt, "memory",
-    );
-    let mut link = Box::new(rt.alloc(), link).expect(&rt, "memory");
-    let shown = shows_suspended(&mut link, &UNTIL_SHOWN, THREAD);
-    assert!(&rt; shown.expect(&rt, "memory"));
+/// A link over the machine, on the heap.
+fn linked(rt: &impl Abort, alloc: Global) -> Box<Link<OneStep>> {
+    let link = Link::new(alloc, OneStep::new(alloc), all_suspended(rt)).expect(rt, "memory");
+    Box::new(alloc, link).expect(rt, "memory")
 }
 
-/// The thread is shown with the count that VM_START gave it; what is told is that event alone.
+/// The thread is shown as suspended, with the count that VM_START gave it; what is told is that event alone.
 #[test]
-fn a_link_that_one_was_given_settles_and_shows(rt: HostRuntime) {
-    let link = Link::new(rt.alloc(), OneStep::new(rt.alloc()), all_suspended(&rt)).expect(
-        &rt, "memory",
-    );
-    let mut link = Box::new(rt.alloc(), link).expect(&rt, "memory");
+fn a_thread_of_ones_own_machine_is_shown_suspended(rt: HostRuntime) {
+    let mut link = linked(&rt, rt.alloc());
+    let shown = shows_suspended(&mut link, &UNTIL_SHOWN, THREAD);
+    expect_that(&rt, shown.expect(&rt, "memory"));
+    let mut link = linked(&rt, rt.alloc());
     let told = settle(&mut link, &UNTIL_SHOWN).expect(&rt, "memory");
-    assert_eq!(&rt; told.len(), 1);
-    assert_eq!(&rt; shown_count(&link, THREAD), Some(1));
+    expect_same(&rt, &told.len(), &1);
+    expect_same(&rt, &shown_count(&link, THREAD), &Some(1));
 }

@@ -1,5 +1,5 @@
 //! Plans as texts.
-use crate::asserts::{expect_same, expect_same_for};
+use crate::asserts::{expect_same, expect_same_for, expect_that};
 use jdwp_attach::{LineFault, PlanFault, PlanLine, read_attach_plan, read_plan};
 use std::alloc::Global;
 use std::process::Abort;
@@ -221,7 +221,7 @@ fn plans_of_attach_are_read(rt: HostRuntime) {
         Form::Events(2),
         Form::Mirror,
     ];
-    assert!(rt; has_forms(&plan, &forms));
+    expect_that(&rt, has_forms(&plan, &forms));
     expect_same(&rt, &attach_plan(&rt, rt.alloc(), "").len(), &0);
 }
 

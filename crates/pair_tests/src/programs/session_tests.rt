@@ -1,7 +1,7 @@
 //! Runs of a debugger by plans, byte for byte and line for line.
 ghost use Rattle.std.specs.Prelude.{◌≤◌, IfOk, IfSome, ◌≡◌};
 
-use crate::asserts::expect_same;
+use crate::asserts::{expect_same, expect_that};
 use jdwp_attach::{PlanLine, attach};
 use jdwp_debugger::Debugger;
 use jdwp_end::{Ended, Streams};
@@ -260,7 +260,7 @@ const COMMANDS: [&str; 5] = [
     "0000000b 00000004 00 01 06",
 ];
 
-static SESSION: Case = Case {
+static SESSION: [Case; 1] = [Case {
     from: &ANSWERS,
     plan: &[
         Line::Ask(1, 8, ""),
@@ -277,14 +277,7 @@ static SESSION: Case = Case {
 < 4 reply VirtualMachine.Dispose 0
 ",
     ..CASE
-};
-
-#[test]
-fn session_is_told_line_by_line(rt: HostRuntime) {
-    assert!(rt; passes(&rt, rt.alloc(), &SESSION, 4096));
-    assert!(rt; passes(&rt, rt.alloc(), &SESSION, 1));
-    assert!(rt; passes(&rt, rt.alloc(), &SESSION, 7));
-}
+}];
 
 /// The widths are known, and nothing more comes.
 const READY: [&str; 2] = [HANDSHAKE, EIGHT];
@@ -668,31 +661,6 @@ static LOST: [Case; 11] = [
     },
 ];
 
-#[test]
-fn plans_are_carried_out(rt: HostRuntime) {
-    let alloc = rt.alloc();
-    for case in FINISHED.iter() {
-        assert!(rt; passes(&rt, alloc, case, 4096));
-        assert!(rt; passes(&rt, alloc, case, 1));
-    }
-}
-
-#[test]
-fn faults_end_the_run(rt: HostRuntime) {
-    let alloc = rt.alloc();
-    for case in REFUSED.iter() {
-        assert!(rt; passes(&rt, alloc, case, 4096));
-    }
-}
-
-#[test]
-fn losses_and_the_limit_end_the_run(rt: HostRuntime) {
-    let alloc = rt.alloc();
-    for case in LOST.iter() {
-        assert!(rt; passes(&rt, alloc, case, 4096));
-    }
-}
-
 /// A run that is refused at a line of `pair` alone: what the lines before it asked is written, and no more.
 static OF_PAIR: [Case; 5] = [
     Case {
@@ -745,11 +713,24 @@ static OF_PAIR: [Case; 5] = [
     },
 ];
 
-#[test]
-fn lines_of_pair_end_the_run(rt: HostRuntime) {
-    for case in OF_PAIR.iter() {
-        assert!(rt; passes(&rt, rt.alloc(), case, 4096));
+/// Each of these comes to what it says, where so many bytes are read and written at once at most.
+fn all_pass(rt: &impl Abort, alloc: Global, cases: &[Case], most: usize) {
+    for case in cases {
+        expect_that(rt, passes(rt, alloc, case, most));
     }
+}
+
+/// Plans are carried out to their end, whole and in pieces, and faults, losses, the limit and lines of `pair` end a run.
+#[test]
+fn each_run_comes_to_what_is_said(rt: HostRuntime) {
+    for most in [4096, 1, 7] {
+        all_pass(&rt, rt.alloc(), &SESSION, most);
+    }
+    all_pass(&rt, rt.alloc(), &FINISHED, 4096);
+    all_pass(&rt, rt.alloc(), &FINISHED, 1);
+    all_pass(&rt, rt.alloc(), &REFUSED, 4096);
+    all_pass(&rt, rt.alloc(), &LOST, 4096);
+    all_pass(&rt, rt.alloc(), &OF_PAIR, 4096);
 }
 
 static TOO_MANY: Case = Case {
@@ -764,7 +745,7 @@ fn is_one_too_many(rt: &impl Abort, outcome: &Outcome) {
     expect_same(rt, &outcome.ended, &Ended::Refused(32));
     expect_same(rt, &outcome.to.len(), &(14 + 11 + 64 * 11));
     expect_same(rt, &outcome.lines.as_slice(), &READY_LINES.as_bytes());
-    assert!(rt; outcome.attaches_again);
+    expect_that(rt, outcome.attaches_again);
 }
 
 /// 64 commands may wait for their answers: one more is refused, and what was asked before it is written.
@@ -795,8 +776,8 @@ fn run_of_none(alloc: Global, debugger: &mut Debugger) -> (Ended, bool) {
 #[test]
 fn open_debugger_is_refused(rt: HostRuntime) {
     let mut debugger = debugger(&rt, rt.alloc());
-    assert!(rt; debugger.attach());
+    expect_that(&rt, debugger.attach());
     let ran = run_of_none(rt.alloc(), &mut debugger);
     expect_same(&rt, &ran, &(Ended::Refused(0), true));
-    assert!(rt; debugger.is_open());
+    expect_that(&rt, debugger.is_open());
 }
