@@ -138,7 +138,7 @@ jdwp_end | End::front front; End::take_off; finds_first_message; SessionEnd take
 TAIL = """\
 ## Only tested
 
-- What has no contract of its own: `main`, the programs `both_ends` and `breakpoint_harness`, and the crates of tests.
+- What has no contract of its own: `main`, the programs over the library, and the crates of tests.
 - The table of commands, the fields of modifiers and events, and commands by name, against other listings.
 - Texts: the lines of `show` for every command, modifier and event; faults; the words of the command line; what is told of files, ports and outputs that fail.
 - Worked sessions, byte for byte: of a target, a debugger, a link (cut at every place, lost behind each byte), plans over files, ports, memory and a connection.
