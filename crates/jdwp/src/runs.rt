@@ -89,8 +89,10 @@ pub(crate) struct Scene {
     /// What is printed, where that is compared.
     pub prints: Option<&'static str>,
     pub tells: Tells,
-    /// The files that it makes or leaves, and what is in them then, where that is compared.
+    /// The files that it makes, and what is in them then, where that is compared.
     pub leaves: &'static [(&'static str, Option<Holds>)],
+    /// The files that were there, and hold this still.
+    pub keeps: &'static [(&'static str, Holds)],
     /// The files that it does not make.
     pub spares: &'static [&'static str],
 }
@@ -103,6 +105,7 @@ pub(crate) const SCENE: Scene = Scene {
     prints: Some(""),
     tells: Tells::Exactly(""),
     leaves: &[],
+    keeps: &[],
     spares: &[],
 };
 
@@ -267,6 +270,13 @@ fn are_left<R: Files + Clock + Net + AllocGlobal + Abort>(rt: &R, files: &[(&str
     }
 }
 
+/// The files of the list hold this.
+fn are_kept<R: Files + Clock + Net + AllocGlobal + Abort>(rt: &R, files: &[(&str, Holds)]) {
+    for (file, held) in files {
+        file_holds(rt, file, &bytes_of(rt, *held));
+    }
+}
+
 /// What a run gave is what its scene says.
 fn is_as_said<R: AllocGlobal + Abort>(rt: &R, ran: &Run, scene: &Scene) {
     expect_same_for(rt, &ran.status, &scene.status, &scene.words);
@@ -298,6 +308,7 @@ pub(crate) fn go<R: Files + Clock + Net + AllocGlobal + Abort>(rt: &R, scenes: &
         let words = words_of(rt, scene.words);
         is_as_said(rt, &run_words(rt, words.as_slice()), scene);
         are_left(rt, scene.leaves);
+        are_kept(rt, scene.keeps);
         for file in scene.spares {
             is_not_made(rt, file);
         }

@@ -464,7 +464,7 @@ fn a_script_that_is_refused_is_told(rt: HostRuntime) {
 const SAME: &[(&str, Holds)] = &[("same", Holds::Text("text"))];
 
 /// It is not emptied.
-const KEPT: &[(&str, Option<Holds>)] = &[("same", Some(Holds::Text("text")))];
+const KEPT: &[(&str, Holds)] = &[("same", Holds::Text("text"))];
 
 const ALSO_READ: Tells = Tells::All(&[
     "./same: a file that is read, too: writing to it would empty it\n",
@@ -480,7 +480,7 @@ static SAME_FILES: [Scene; 8] = [
             "error: '--to' names the file of 'MACHINE': writing to it would empty it",
             "Usage: jdwp ",
         ]),
-        leaves: KEPT,
+        keeps: KEPT,
         spares: &["other"],
         ..SCENE
     },
@@ -492,7 +492,7 @@ static SAME_FILES: [Scene; 8] = [
             "error: '--to' names the file of '--from': writing to it would empty it",
             "Usage: jdwp ",
         ]),
-        leaves: KEPT,
+        keeps: KEPT,
         spares: &["other"],
         ..SCENE
     },
@@ -504,7 +504,7 @@ static SAME_FILES: [Scene; 8] = [
             "error: '--to' names the file of 'PLAN': writing to it would empty it",
             "Usage: jdwp ",
         ]),
-        leaves: KEPT,
+        keeps: KEPT,
         spares: &["other"],
         ..SCENE
     },
@@ -516,7 +516,7 @@ static SAME_FILES: [Scene; 8] = [
             "error: '--to' names the file of '--from': writing to it would empty it",
             "Usage: jdwp ",
         ]),
-        leaves: KEPT,
+        keeps: KEPT,
         spares: &["other"],
         ..SCENE
     },
@@ -525,7 +525,7 @@ static SAME_FILES: [Scene; 8] = [
         words: "serve-script same --from other --to ./same",
         status: 1,
         tells: ALSO_READ,
-        leaves: KEPT,
+        keeps: KEPT,
         spares: &["other"],
         ..SCENE
     },
@@ -534,7 +534,7 @@ static SAME_FILES: [Scene; 8] = [
         words: "serve-script other --from same --to ./same",
         status: 1,
         tells: ALSO_READ,
-        leaves: KEPT,
+        keeps: KEPT,
         spares: &["other"],
         ..SCENE
     },
@@ -543,7 +543,7 @@ static SAME_FILES: [Scene; 8] = [
         words: "attach same --from other --to ./same",
         status: 1,
         tells: ALSO_READ,
-        leaves: KEPT,
+        keeps: KEPT,
         spares: &["other"],
         ..SCENE
     },
@@ -552,7 +552,7 @@ static SAME_FILES: [Scene; 8] = [
         words: "attach other --from same --to ./same",
         status: 1,
         tells: ALSO_READ,
-        leaves: KEPT,
+        keeps: KEPT,
         spares: &["other"],
         ..SCENE
     },
