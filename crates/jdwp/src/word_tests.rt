@@ -3,6 +3,7 @@ use crate::asserts::expect_same_for;
 use crate::runs::{MACHINE, SESSION, is_not_made, is_refused, is_run, remove, status_of, write};
 use jdwp_debuggee::Settings;
 use jdwp_debugger::Order;
+use jdwp_machine::Profile;
 use jdwp_program::{Attach, Between, Fault, Pair, Peer, ServeScript, SessionFiles, Words};
 use jdwp_wire::Limits;
 use std::alloc::Global;
@@ -86,6 +87,11 @@ const OPTIONS: &str = "--port|5
 --limits|2047,64,3,64
 --limits|2048,64,4,64
 --limits|4096,8,2,4|--limits|4096,8,2,4
+--profile
+--profile|
+--profile|JDI
+--profile|standard |
+--profile|jdi|--profile|jdi
 --defer|--defer
 --defer=true
 --turns
@@ -105,6 +111,8 @@ const TAKEN: &str = "--start|all
 --start=none
 --count-limit|2147483647
 --limits|4096,8,2,4
+--profile|standard
+--profile=jdi
 --defer
 --turns|007";
 
@@ -157,7 +165,7 @@ static HELP: [(&str, &str); 24] = [
     ),
     (
         "serve-script --help",
-        "Serves|Usage: jdwp serve-script |<MACHINE>|--from <FILE>|--to <FILE>|--port <N>|--live|--pace <MS>|--start <WHICH>|--count-limit <N>|--defer|--turns <N>",
+        "Serves|Usage: jdwp serve-script |<MACHINE>|--from <FILE>|--to <FILE>|--port <N>|--live|--pace <MS>|--start <WHICH>|--count-limit <N>|--profile <PROFILE>|[default: standard]|standard, jdi|--defer|--turns <N>",
     ),
     (
         "attach --help",
@@ -266,13 +274,33 @@ fn usage_names_the_program(rt: HostRuntime) {
     }
 }
 
-/// Options of `serve-script`, whether all threads start suspended, the count limit, and the turns.
-static DEFAULTS: [(&[&str], bool, u32, u32); 5] = [
-    (&[], true, 65535, 100000),
-    (&["--start", "none"], false, 65535, 100000),
-    (&["--start=all"], true, 65535, 100000),
-    (&["--count-limit", "2147483647"], true, 2147483647, 100000),
-    (&["--turns", "007"], true, 65535, 7),
+/// Options of `serve-script`, whether all threads start suspended, the count limit, the profile, and the turns.
+static DEFAULTS: [(&[&str], bool, u32, Profile, u32); 7] = [
+    (&[], true, 65535, Profile::Standard, 100000),
+    (
+        &["--start", "none"],
+        false,
+        65535,
+        Profile::Standard,
+        100000,
+    ),
+    (&["--start=all"], true, 65535, Profile::Standard, 100000),
+    (
+        &["--count-limit", "2147483647"],
+        true,
+        2147483647,
+        Profile::Standard,
+        100000,
+    ),
+    (
+        &["--profile", "standard"],
+        true,
+        65535,
+        Profile::Standard,
+        100000,
+    ),
+    (&["--profile=jdi"], true, 65535, Profile::Jdi, 100000),
+    (&["--turns", "007"], true, 65535, Profile::Standard, 7),
 ];
 
 /// Options of `attach`, the order, and the turns.
@@ -296,6 +324,7 @@ fn serves(
     more: &[&str],
     start_all: bool,
     count_limit: u32,
+    profile: Profile,
     turns: u32,
 ) {
     let (machine, from, to) = ("m", "f", "t");
@@ -308,7 +337,7 @@ fn serves(
     let want = Words::ServeScript(ServeScript {
         machine,
         peer: Peer::Files(SessionFiles { from, to }),
-        settings,
+        settings: settings.with_profile(profile),
         defer: false,
         turns,
         live: None,
@@ -335,8 +364,16 @@ fn attaches(rt: &impl Abort, alloc: Global, more: &[&str], order: Order, turns: 
 
 #[test]
 fn options_have_defaults(rt: HostRuntime) {
-    for &(more, start_all, count_limit, turns) in DEFAULTS.iter() {
-        serves(&rt, rt.alloc(), more, start_all, count_limit, turns);
+    for &(more, start_all, count_limit, profile, turns) in DEFAULTS.iter() {
+        serves(
+            &rt,
+            rt.alloc(),
+            more,
+            start_all,
+            count_limit,
+            profile,
+            turns,
+        );
     }
     for &(more, order, turns) in DEFAULTS_OF_ATTACH.iter() {
         attaches(&rt, rt.alloc(), more, order, turns);
@@ -477,7 +514,7 @@ fn pairs(
 }
 
 /// Words about ports and about both ends that are refused.
-static REFUSED_PEERS: [&[&str]; 16] = [
+static REFUSED_PEERS: [&[&str]; 17] = [
     &["serve-script", "m", "--port"],
     &["serve-script", "m", "--port", "0"],
     &["serve-script", "m", "--port", "65536"],
@@ -501,6 +538,7 @@ static REFUSED_PEERS: [&[&str]; 16] = [
     &["pair", "m", "p", "--memory", "--memory"],
     &["pair", "m", "p", "--port", "80"],
     &["pair", "m", "p", "--memory", "--count-limit", "5"],
+    &["pair", "m", "p", "--memory", "--profile", "jdi"],
     &["pair", "m", "p", "--memory", "--defer", "--defer"],
     &["attach", "p", "--port", "80", "--defer"],
 ];

@@ -9,9 +9,9 @@ use Rattle.jdwp_wire.specs.declared.packet.PacketKind.TheVariants as kind
 use Rattle.jdwp_end.specs.Ends as ends
 use Rattle.jdwp_machine.specs.Meanings.{Meaning}
 use Rattle.jdwp_action.specs.Actions
-use Rattle.jdwp_action.specs.Actions.{Action, Command, action_of, is_implemented}
+use Rattle.jdwp_action.specs.Actions.{Action, Command, action_of}
 use Rattle.jdwp_action.specs.AnswerPackets.{EncodesAnswer, error_of}
-use Rattle.jdwp_action.specs.CommandReads.{command_read}
+use Rattle.jdwp_debuggee.specs.Answering.{is_answered, read_as}
 use Rattle.jdwp_debuggee.specs.Deferring.{released_at}
 use Rattle.jdwp_debuggee.specs.Effects.{does, effect, effect_by}
 use Rattle.jdwp_debuggee.specs.Settings.{Settings}
@@ -43,7 +43,7 @@ effect-by-same m settings limits now c true = does-same m settings limits now c 
 effect-by-same m settings limits now c false = refl
 
 effect-same : {S : Type 0} (m : Meaning S) (settings : Settings) (limits : Limits) (now : Moment S) (c : Command) → effect m (settings_between settings limits) now c ≡ effect m settings now c
-effect-same m settings limits now c = effect-by-same m settings limits now c (is_implemented c)
+effect-same m settings limits now c = effect-by-same m settings limits now c (is_answered settings.profile c)
 
 carried-same : {S : Type 0} (m : Meaning S) (settings : Settings) (limits : Limits) (now : Moment S) (read : Result Command ErrorCode) → carried_out m (settings_between settings limits) now read ≡ carried_out m settings now read
 carried-same m settings limits now (Ok c) = effect-same m settings limits now c
@@ -54,7 +54,7 @@ carried-same m settings limits now (Err e) = refl
 packet-same : {S : Type 0} (m : Meaning S) (settings : Settings) (limits : Limits) (now : Standing S) (id : ℕ) (k : PacketKind) (body : List ℕ)
     → handles_packet m (settings_between settings limits) now id k body ≡ handles_packet m settings now id k body
 packet-same m settings limits now id (kind.Command set number) body =
-    ap (replies now (m.sizes now.moment.machine) id) (carried-same m settings limits now.moment (command_read (m.sizes now.moment.machine) set number body))
+    ap (replies now (m.sizes now.moment.machine) id) (carried-same m settings limits now.moment (read_as settings.profile (m.sizes now.moment.machine) set number body))
 packet-same m settings limits now id (kind.Reply error) body = refl
 
 handles-same : {S : Type 0} (m : Meaning S) (settings : Settings) (limits : Limits) (now : Standing S) (message : streams.Message) → handles m (settings_between settings limits) now message ≡ handles m settings now message
@@ -93,7 +93,7 @@ read-visits m settings limits now (Err e) visits = refl
 
 packet-visits : {S : Type 0} (m : Meaning S) (settings : Settings) (limits : Limits) (now : Moment S) (k : PacketKind) (body : List ℕ) (visits : ℕ)
     → visits_packet m (settings_between settings limits) now k body visits ≡ visits_packet m settings now k body visits
-packet-visits m settings limits now (kind.Command set number) body visits = read-visits m settings limits now (command_read (m.sizes now.machine) set number body) visits
+packet-visits m settings limits now (kind.Command set number) body visits = read-visits m settings limits now (read_as settings.profile (m.sizes now.machine) set number body) visits
 packet-visits m settings limits now (kind.Reply error) body visits = refl
 
 handled-visits : {S : Type 0} (m : Meaning S) (settings : Settings) (limits : Limits) (now : Moment S) (message : streams.Message) (visits : ℕ)
@@ -138,7 +138,7 @@ released-within m limits t place =
 
 told-packet : {S : Type 0} (m : Meaning S) (limits : Limits) (t : Target S) (id : ℕ) (k : PacketKind) (body : List ℕ) → told_of_packet m (target_within limits t) id k body ≡ told_of_packet m t id k body
 told-packet m limits t id (kind.Command set number) body =
-    ap (λ e. turning.Replied id (error_of e.answer)) (carried-same m t.settings limits t.moment (command_read (m.sizes t.moment.machine) set number body))
+    ap (λ e. turning.Replied id (error_of e.answer)) (carried-same m t.settings limits t.moment (read_as t.settings.profile (m.sizes t.moment.machine) set number body))
 told-packet m limits t id (kind.Reply error) body = refl
 
 told-same : {S : Type 0} (m : Meaning S) (limits : Limits) (t : Target S) (message : streams.Message) → told_of m (target_within limits t) message ≡ told_of m t message
@@ -162,7 +162,7 @@ starts-within m limits t false h = h
 
 kind-within : {S : Type 0} (m : Meaning S) (limits : Limits) (t : Target S) (k : PacketKind) (body : List ℕ) → EncodesByKind m t k body → EncodesByKind m (target_within limits t) k body
 kind-within m limits t (kind.Command set number) body h =
-    subst (λ e. EncodesAnswer (m.sizes t.moment.machine) set number e.answer) (sym (carried-same m t.settings limits t.moment (command_read (m.sizes t.moment.machine) set number body))) h
+    subst (λ e. EncodesAnswer (m.sizes t.moment.machine) set number e.answer) (sym (carried-same m t.settings limits t.moment (read_as t.settings.profile (m.sizes t.moment.machine) set number body))) h
 kind-within m limits t (kind.Reply error) body h = h
 
 encodes-for : {S : Type 0} (m : Meaning S) (limits : Limits) (t : Target S) (message : streams.Message) → EncodesFor m t message → EncodesFor m (target_within limits t) message

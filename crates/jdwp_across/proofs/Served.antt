@@ -17,7 +17,7 @@ use Rattle.jdwp_end.specs.Ends.{front_of, is_established, is_established_phase, 
 use Rattle.jdwp_event.specs.Composites.{CompositeMeaning}
 use Rattle.jdwp_machine.specs.Meanings.{Meaning}
 use Rattle.jdwp_action.specs.Actions.{Command}
-use Rattle.jdwp_action.specs.CommandReads.{command_read}
+use Rattle.jdwp_debuggee.specs.Answering.{read_as}
 use Rattle.jdwp_debuggee.specs.Deferring.{released_at}
 use Rattle.jdwp_debuggee.specs.Effects.{Effect, effect}
 use Rattle.jdwp_debuggee.specs.Settings.{Settings}
@@ -121,7 +121,7 @@ read-side m rests settings b now lost w id (Err e) side = side
 
 packet-side : {S : Type 0} (m : Meaning S) → Rests m → (settings : Settings) → AreBounds settings → (now : Moment S) (lost : Bool) (id : ℕ) (k : PacketKind) (body : List ℕ) → TargetSide m settings Established lost now
     → SideAt m settings lost (handles_packet m settings (stands now Established) id k body).after
-packet-side m rests settings b now lost id (kind.Command set number) body side = read-side m rests settings b now lost (m.sizes now.machine) id (command_read (m.sizes now.machine) set number body) side
+packet-side m rests settings b now lost id (kind.Command set number) body side = read-side m rests settings b now lost (m.sizes now.machine) id (read_as settings.profile (m.sizes now.machine) set number body) side
 packet-side m rests settings b now lost id (kind.Reply error) body side = side
 
 -- ---- a handshake

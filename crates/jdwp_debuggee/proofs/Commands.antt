@@ -16,7 +16,8 @@ use Rattle.jdwp_machine.specs.Laws.{IsLawful, MayAnswer}
 use Rattle.jdwp_debuggee.specs.Settings.{Settings}
 use Rattle.jdwp_debuggee.specs.State.{State, Moment, count_of, with_counts, raised, lowered, cleared, only, at_limit}
 use Rattle.jdwp_action.specs.Actions
-use Rattle.jdwp_action.specs.Actions.{Command, Action, action_of, is_implemented, is_dispose, is_exit, about}
+use Rattle.jdwp_debuggee.specs.Answering.{is_answered}
+use Rattle.jdwp_action.specs.Actions.{Command, Action, action_of, is_dispose, is_exit, about}
 use Rattle.jdwp_action.specs.AnswerPackets.{sizes_answer}
 use Rattle.jdwp_debuggee.specs.Answers.{done, int_answer, bounded, fits_packet, frames_answer, query_of, all_threads, status_answer}
 use Rattle.jdwp_debuggee.specs.Refusals.{set_refusal}
@@ -377,7 +378,7 @@ not-implemented t count k = absurd (omega (arith, k))
 
 pub does_effect : {S : Type 0} (m : Meaning S) → IsLawful m → (settings : Settings) (now : Moment S) (c : Command) → IsSound m settings now → Does m settings now (action_of c) (effect m settings now c)
 does_effect m law settings now c s =
-    elim (is_implemented c) as (λ b. Does m settings now (action_of c) (effect_by m settings now c b)) [
+    elim (is_answered settings.profile c) as (λ b. Does m settings now (action_of c) (effect_by m settings now c b)) [
       | true ↦ does_all m law settings now c (action_of c) s
       | false ↦ does_refused m settings now (action_of c) NOT_IMPLEMENTED s (λ t h. not-implemented t (count_of now.state t))
     ]

@@ -52,7 +52,7 @@ unless-none false e h = absurd (cc)
 -- a request that is not refused has room, and an id
 pub set-few : {S : Type 0} (m : Meaning S) (settings : Settings) (now : Moment S) (byte policy : ℕ) (modifiers : List ModifierMeaning) → set_refusal m settings now byte policy modifiers ≡ None → length now.state.requests + 1 ≤ settings.limits.requests
 set-few m settings now byte policy modifiers h =
-    let a = second-none (kind_refusal byte) _ h in
+    let a = second-none (kind_refusal settings.profile byte) _ h in
     let b = second-none _ _ a in
     let c = first-none (room_refusal settings now.state) _ b in
     let d : nat_lt (length now.state.requests) settings.limits.requests ≡ true = and-left (nat_lt (length now.state.requests) settings.limits.requests) _ (unless-none _ _ c) in
@@ -60,7 +60,7 @@ set-few m settings now byte policy modifiers h =
 
 pub set-room : {S : Type 0} (m : Meaning S) (settings : Settings) (now : Moment S) (byte policy : ℕ) (modifiers : List ModifierMeaning) → set_refusal m settings now byte policy modifiers ≡ None → now.state.next_request ≤ greatest_int
 set-room m settings now byte policy modifiers h =
-    let a = second-none (kind_refusal byte) _ h in
+    let a = second-none (kind_refusal settings.profile byte) _ h in
     let b = second-none _ _ a in
     let c = first-none (room_refusal settings now.state) _ b in
     let d : nat_le now.state.next_request LAST_REQUEST ≡ true = and-right (nat_lt (length now.state.requests) settings.limits.requests) _ (unless-none _ _ c) in

@@ -25,13 +25,15 @@ use Rattle.jdwp_event.specs.Modifiers.{ModifierMeaning, modifiers_of}
 use Rattle.jdwp_machine.specs.declared.query.Query.{Query}
 use Rattle.jdwp_machine.specs.Meanings.{Meaning}
 use Rattle.jdwp_action.specs.Actions
-use Rattle.jdwp_action.specs.Actions.{Action, Carried, Command, Content, action_by, action_of, clear_action, first_object, is_implemented, other_action, set_action, slots_of, thread_action, thread_of}
+use Rattle.jdwp_action.specs.Actions.{Action, Carried, Command, Content, action_by, action_of, clear_action, first_object, other_action, set_action, slots_of, thread_action, thread_of}
 use Rattle.jdwp_action.specs.CommandReads.{command_read, content_read, read_by, with_content}
 use Rattle.jdwp_action.specs.RowLayouts.{row_request}
 use Rattle.jdwp_debuggee.specs.Answers.{bounded, query_of}
 use Rattle.jdwp_debuggee.specs.Askings.{carries_nothing, carries_thread, is_short}
 use Rattle.jdwp_debuggee.specs.Effects.{answer_frames, answer_thread, answered, does, effect, effect_by, refused, set_by, slots_at, slots_by}
-use Rattle.jdwp_debuggee.specs.ReadParts.{AsksFor, begin_with_object, implemented_request, unread}
+use Rattle.jdwp_machine.specs.declared.profile.Profile.{Profile}
+use Rattle.jdwp_debuggee.specs.Answering.{is_answered, read_as}
+use Rattle.jdwp_debuggee.specs.ReadParts.{AsksFor, begin_with_object, begins_with_thread, answered_request, unread}
 use Rattle.jdwp_debuggee.specs.Refusals.{is_some_count, kind_refusal, modifiers_refusal, or_else, room_refusal, set_refusal, shape_refusal, unless}
 use Rattle.jdwp_debuggee.specs.Settings.{Settings}
 use Rattle.jdwp_debuggee.specs.State.{State, Moment, count_of}
@@ -210,9 +212,6 @@ own-thread settings state t c long =
 
 -- ---- a command of these sets begins with a thread
 
-abbrev pub begins_with_thread : ℕ → Bool
-begins_with_thread set = (set == THREAD_REFERENCE) || (set == STACK_FRAME)
-
 no-set : (set number : ℕ) → begins_with_thread set ≡ true → is_command SET_REQUEST set number ≡ false
 no-set set number e =
     elim (set == THREAD_REFERENCE) as (λ (b : Bool). (set == THREAD_REFERENCE) ≡ b → (b || (set == STACK_FRAME)) ≡ true → is_command SET_REQUEST set number ≡ false) [
@@ -228,15 +227,15 @@ no-thread set number content e = rw e refl
 
 -- ---- why a command that was read is refused
 
-read-content : (w : Widths) (set number : ℕ) (bytes : List ℕ) (items : List ItemShape) (c : Command) → implemented_request set number ≡ Some items → command_read w set number bytes ≡ Ok c
+read-content : (p : Profile) (w : Widths) (set number : ℕ) (bytes : List ℕ) (items : List ItemShape) (c : Command) → answered_request p set number ≡ Some items → read_as p w set number bytes ≡ Ok c
     → (content : List DatumMeaning) × (data_at w items bytes ≡ Ok content) × (with_content set number content ≡ c)
-read-content w set number bytes items c e read = content-of set number (data_at w items bytes) c (sym (read_is w set number bytes items e) ∙ read)
+read-content p w set number bytes items c e read = content-of set number (data_at w items bytes) c (sym (read_is p w set number bytes items e) ∙ read)
 
-pub refuses-thread : (settings : Settings) (state : State) (w : Widths) (set number : ℕ) (bytes : List ℕ) (items : List ItemShape) (t : ℕ) (c : Command) → begins_with_thread set ≡ true → is_short set number ≡ false
-    → implemented_request set number ≡ Some items → ((content : List DatumMeaning) → data_at w items bytes ≡ Ok content → Some t ≡ first_object content) → command_read w set number bytes ≡ Ok c
+pub refuses-thread : (p : Profile) (settings : Settings) (state : State) (w : Widths) (set number : ℕ) (bytes : List ℕ) (items : List ItemShape) (t : ℕ) (c : Command) → begins_with_thread set ≡ true → is_short set number ≡ false
+    → answered_request p set number ≡ Some items → ((content : List DatumMeaning) → data_at w items bytes ≡ Ok content → Some t ≡ first_object content) → read_as p w set number bytes ≡ Ok c
     → refusal_by_count (asks_of_frames set number) (count_of state t) ≡ own_refusal settings state (action_of c)
-refuses-thread settings state w set number bytes items t c begins long e found read =
-    let parts = read-content w set number bytes items c e read in
+refuses-thread p settings state w set number bytes items t c begins long e found read =
+    let parts = read-content p w set number bytes items c e read in
     let content = parts.0 in
     let reads = parts.1 in
     let is = parts.2 in
@@ -244,11 +243,11 @@ refuses-thread settings state w set number bytes items t c begins long e found r
     subst (λ (x : Command). refusal_by_count (asks_of_frames set number) (count_of state t) ≡ own_refusal settings state (action_of x)) is
     (sym (ap (λ (o : Option ℕ). own_refusal settings state (action_by o (with_content set number content))) thread ∙ own-thread settings state t (with_content set number content) long))
 
-pub refuses-none : (settings : Settings) (state : State) (w : Widths) (set number : ℕ) (bytes : List ℕ) (items : List ItemShape) (c : Command) → begins_with_thread set ≡ true
-    → implemented_request set number ≡ Some items → ((content : List DatumMeaning) → data_at w items bytes ≡ Ok content → None ≡ first_object content) → command_read w set number bytes ≡ Ok c
+pub refuses-none : (p : Profile) (settings : Settings) (state : State) (w : Widths) (set number : ℕ) (bytes : List ℕ) (items : List ItemShape) (c : Command) → begins_with_thread set ≡ true
+    → answered_request p set number ≡ Some items → ((content : List DatumMeaning) → data_at w items bytes ≡ Ok content → None ≡ first_object content) → read_as p w set number bytes ≡ Ok c
     → None ≡ own_refusal settings state (action_of c)
-refuses-none settings state w set number bytes items c begins e found read =
-    let parts = read-content w set number bytes items c e read in
+refuses-none p settings state w set number bytes items c begins e found read =
+    let parts = read-content p w set number bytes items c e read in
     let content = parts.0 in
     let reads = parts.1 in
     let is = parts.2 in
@@ -256,23 +255,23 @@ refuses-none settings state w set number bytes items c begins e found read =
     subst (λ (x : Command). None ≡ own_refusal settings state (action_of x)) is
     (sym (ap (λ (o : Option ℕ). own_refusal settings state (action_by o (with_content set number content))) thread ∙ own-other settings state (with_content set number content) (no-set set number begins)))
 
-pub refuses-unread : (w : Widths) (set number : ℕ) (bytes : List ℕ) (c : Command) (P : Type 0) → implemented_request set number ≡ None → command_read w set number bytes ≡ Ok c → P
-refuses-unread w set number bytes c P e read = let apart = sym (unread_is w set number bytes e) ∙ read in absurd cc
+pub refuses-unread : (p : Profile) (w : Widths) (set number : ℕ) (bytes : List ℕ) (c : Command) (P : Type 0) → answered_request p set number ≡ None → read_as p w set number bytes ≡ Ok c → P
+refuses-unread p w set number bytes c P e read = let apart = sym (unread_is p w set number bytes e) ∙ read in absurd cc
 
-refuses-by : (settings : Settings) (state : State) (w : Widths) (set number : ℕ) (bytes : List ℕ) (o : Option (List ItemShape)) (c : Command) → begins_with_thread set ≡ false → is_command SET_REQUEST set number ≡ false
-    → implemented_request set number ≡ o → command_read w set number bytes ≡ Ok c → None ≡ own_refusal settings state (action_of c)
-refuses-by settings state w set number bytes None c begins off e read = refuses-unread w set number bytes c _ e read
-refuses-by settings state w set number bytes (Some items) c begins off e read =
-    let parts = read-content w set number bytes items c e read in
+refuses-by : (p : Profile) (settings : Settings) (state : State) (w : Widths) (set number : ℕ) (bytes : List ℕ) (o : Option (List ItemShape)) (c : Command) → begins_with_thread set ≡ false → is_command SET_REQUEST set number ≡ false
+    → answered_request p set number ≡ o → read_as p w set number bytes ≡ Ok c → None ≡ own_refusal settings state (action_of c)
+refuses-by p settings state w set number bytes None c begins off e read = refuses-unread p w set number bytes c _ e read
+refuses-by p settings state w set number bytes (Some items) c begins off e read =
+    let parts = read-content p w set number bytes items c e read in
     let content = parts.0 in
     let reads = parts.1 in
     let is = parts.2 in
     subst (λ (x : Command). None ≡ own_refusal settings state (action_of x)) is
     (sym (ap (λ (o : Option ℕ). own_refusal settings state (action_by o (with_content set number content))) (no-thread set number content begins) ∙ own-other settings state (with_content set number content) off))
 
-pub refuses-no-other : (settings : Settings) (state : State) (w : Widths) (set number : ℕ) (bytes : List ℕ) (c : Command) → begins_with_thread set ≡ false → is_command SET_REQUEST set number ≡ false
-    → command_read w set number bytes ≡ Ok c → None ≡ own_refusal settings state (action_of c)
-refuses-no-other settings state w set number bytes c begins off read = refuses-by settings state w set number bytes (implemented_request set number) c begins off refl read
+pub refuses-no-other : (p : Profile) (settings : Settings) (state : State) (w : Widths) (set number : ℕ) (bytes : List ℕ) (c : Command) → begins_with_thread set ≡ false → is_command SET_REQUEST set number ≡ false
+    → read_as p w set number bytes ≡ Ok c → None ≡ own_refusal settings state (action_of c)
+refuses-no-other p settings state w set number bytes c begins off read = refuses-by p settings state w set number bytes (answered_request p set number) c begins off refl read
 
 -- ---- what a command does that is refused so
 
@@ -289,7 +288,7 @@ set-refused : {S : Type 0} (m : Meaning S) (settings : Settings) (now : Moment S
     → set_by m now byte policy modifiers (set_refusal m settings now byte policy modifiers) ≡ refused now e
 set-refused m settings now byte policy modifiers e h =
     ap (λ (o : Option ErrorCode). set_by m now byte policy modifiers o)
-    (three-first (kind_refusal byte) (unless (nat_le policy POLICY_ALL) ILLEGAL_ARGUMENT) (room_refusal settings now.state) (or_else (modifiers_refusal m now byte modifiers) (shape_refusal byte modifiers)) e h)
+    (three-first (kind_refusal settings.profile byte) (unless (nat_le policy POLICY_ALL) ILLEGAL_ARGUMENT) (room_refusal settings now.state) (or_else (modifiers_refusal m now byte modifiers) (shape_refusal byte modifiers)) e h)
 
 slots-refused : {S : Type 0} (m : Meaning S) (now : Moment S) (t f : ℕ) (values : List (ℤ × Value)) (count : Option ℕ) (e : ErrorCode) → refusal_by_count true count ≡ Some e → slots_by m now t f values count ≡ refused now e
 slots-refused m now t f values None e h = ap (λ (x : ErrorCode). refused now x) (some-error INVALID_THREAD e h)
@@ -322,17 +321,17 @@ does-refused m settings now c (Actions.AskThread t) e h = thread-refused m setti
 does-refused m settings now c a e h = absurd cc
 
 -- a command that reads is implemented
-implemented-by : (w : Widths) (set number : ℕ) (bytes : List ℕ) (b : Bool) (c : Command) → is_implemented (unread set number) ≡ b → read_by w set number bytes b ≡ Ok c → is_implemented c ≡ true
-implemented-by w set number bytes true c impl read =
+answered-by : (p : Profile) (w : Widths) (set number : ℕ) (bytes : List ℕ) (b : Bool) (c : Command) → is_answered p (unread set number) ≡ b → read_by w set number bytes b ≡ Ok c → is_answered p c ≡ true
+answered-by p w set number bytes true c impl read =
     let found = content-of set number (data_at w (row_request (row_at set number)) bytes) c read in
-    subst (λ (x : Command). is_implemented x ≡ true) found.2 impl
-implemented-by w set number bytes false c impl read = absurd cc
+    subst (λ (x : Command). is_answered p x ≡ true) found.2 impl
+answered-by p w set number bytes false c impl read = absurd cc
 
-pub effect-refused : {S : Type 0} (m : Meaning S) (settings : Settings) (now : Moment S) (w : Widths) (set number : ℕ) (bytes : List ℕ) (c : Command) (r : Option ErrorCode) → command_read w set number bytes ≡ Ok c
+pub effect-refused : {S : Type 0} (m : Meaning S) (settings : Settings) (now : Moment S) (w : Widths) (set number : ℕ) (bytes : List ℕ) (c : Command) (r : Option ErrorCode) → read_as settings.profile w set number bytes ≡ Ok c
     → r ≡ own_refusal settings now.state (action_of c) → IfSome r (λ e. effect m settings now c ≡ refused now e)
 effect-refused m settings now w set number bytes c None read is = tt
 effect-refused m settings now w set number bytes c (Some e) read is =
-    let on = implemented-by w set number bytes (is_implemented (unread set number)) c refl read in
+    let on = answered-by settings.profile w set number bytes (is_answered settings.profile (unread set number)) c refl read in
     ap (λ (b : Bool). effect_by m settings now c b) on ∙ does-refused m settings now c (action_of c) e (sym is)
 
 -- ---- what is refused so wants no memory
@@ -354,7 +353,7 @@ wanting-admitted m settings now question (Actions.AskThread t) h = live-admitted
 wanting-admitted m settings now question a h = refl
 
 pub effects-refused : {S : Type 0} (m : Meaning S) (settings : Settings) (now : Moment S) (w : Widths) (set number : ℕ) (bytes : List ℕ) (r : Option ErrorCode)
-    → ((c : Command) → command_read w set number bytes ≡ Ok c → is_short set number ≡ false → r ≡ own_refusal settings now.state (action_of c))
-    → IfSome r (λ e. (c : Command) → command_read w set number bytes ≡ Ok c → is_short set number ≡ false → effect m settings now c ≡ refused now e)
+    → ((c : Command) → read_as settings.profile w set number bytes ≡ Ok c → is_short set number ≡ false → r ≡ own_refusal settings now.state (action_of c))
+    → IfSome r (λ e. (c : Command) → read_as settings.profile w set number bytes ≡ Ok c → is_short set number ≡ false → effect m settings now c ≡ refused now e)
 effects-refused m settings now w set number bytes None h = tt
 effects-refused m settings now w set number bytes (Some e) h = λ (c : Command). λ read long. effect-refused m settings now w set number bytes c (Some e) read (h c read long)

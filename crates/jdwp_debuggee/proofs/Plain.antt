@@ -3,7 +3,8 @@ use Rattle.jdwp_machine.specs.Meanings.{Meaning}
 use Rattle.jdwp_debuggee.specs.Settings.{Settings}
 use Rattle.jdwp_debuggee.specs.State.{Moment, count_of, at_limit}
 use Rattle.jdwp_action.specs.Actions
-use Rattle.jdwp_action.specs.Actions.{Command, Action, action_of, is_implemented}
+use Rattle.jdwp_debuggee.specs.Answering.{is_answered}
+use Rattle.jdwp_action.specs.Actions.{Command, Action, action_of}
 use Rattle.jdwp_debuggee.specs.Refusals.{set_refusal}
 use Rattle.jdwp_event.specs.Modifiers.{modifiers_of}
 use Rattle.jdwp_debuggee.specs.Effects.{effect, effect_by, does, suspend_by, suspend_thread_by, suspend_thread_at, resume_thread_by, slots_by, slots_at, set_by}
@@ -35,7 +36,7 @@ plain_does m settings now c (Actions.SuspendThread t) h = absurd (cc)
 plain_does m settings now c (Actions.ResumeThread t) h = absurd (cc)
 
 pub plain_effect : {S : Type 0} (m : Meaning S) (settings : Settings) (now : Moment S) (c : Command) → is_plain (action_of c) ≡ true → (effect m settings now c).after.state ≡ now.state
-plain_effect m settings now c h = elim (is_implemented c) as (λ b. (effect_by m settings now c b).after.state ≡ now.state) [ true ↦ plain_does m settings now c (action_of c) h | false ↦ refl ]
+plain_effect m settings now c h = elim (is_answered settings.profile c) as (λ b. (effect_by m settings now c b).after.state ≡ now.state) [ true ↦ plain_does m settings now c (action_of c) h | false ↦ refl ]
 
 kept_does : {S : Type 0} (m : Meaning S) (settings : Settings) (now : Moment S) (c : Command) (a : Action) → keeps_machine a ≡ true → (does m settings now c a).after.machine ≡ now.machine
 kept_does m settings now c (Actions.SuspendCount t) h = refl
@@ -64,4 +65,4 @@ kept_does m settings now c (Actions.SuspendThread t) h =
 kept_does m settings now c (Actions.ResumeThread t) h = elim (count_of now.state t) as (λ v. (resume_thread_by now t v).after.machine ≡ now.machine) [ None ↦ refl | Some n ↦ refl ]
 
 pub kept_effect : {S : Type 0} (m : Meaning S) (settings : Settings) (now : Moment S) (c : Command) → keeps_machine (action_of c) ≡ true → (effect m settings now c).after.machine ≡ now.machine
-kept_effect m settings now c h = elim (is_implemented c) as (λ b. (effect_by m settings now c b).after.machine ≡ now.machine) [ true ↦ kept_does m settings now c (action_of c) h | false ↦ refl ]
+kept_effect m settings now c h = elim (is_answered settings.profile c) as (λ b. (effect_by m settings now c b).after.machine ≡ now.machine) [ true ↦ kept_does m settings now c (action_of c) h | false ↦ refl ]

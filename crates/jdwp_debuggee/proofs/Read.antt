@@ -1,9 +1,10 @@
 -- Reading commands.
-use Rattle.std.proofs.Common.{◌≡◌, ℕ, Bool, true, false, ◌||◌, List, [], Option, Some, None, Result, Ok, Err, refl, ap, sym, subst, ◌∙◌, if◌then◌else◌}
+use Rattle.std.proofs.Common.{◌≡◌, ℕ, Bool, true, false, ◌||◌, ◌&&◌, ◌==◌, List, [], Option, Some, None, Result, Ok, Err, refl, ap, sym, subst, ◌∙◌, if◌then◌else◌}
 use Rattle.std.specs.Prelude.{MatchOption}
 use Rattle.std.specs.List.{filter_map}
 use Rattle.std.proofs.lemmas.List.Elements.{filter_map-append}
 use Rattle.std.proofs.Common.{◌++◌, ◌∷◌, ◌+◌, ◌<◌, length, take, get_or, IfOk}
+use Rattle.std.proofs.lemmas.Bool.{eqb-true}
 use Rattle.std.proofs.lemmas.Grind.{take_at_read}
 use Rattle.std.proofs.lemmas.List.{map-append}
 use Rattle.std.specs.Global.{Vec}
@@ -13,7 +14,7 @@ use Rattle.jdwp_wire.specs.declared.no_memory.NoMemory.{NoMemory}
 use Rattle.jdwp_wire.specs.declared.error_code.ErrorCode.{ErrorCode}
 use Rattle.jdwp_wire.specs.ErrorCodes.{NOT_IMPLEMENTED}
 use Rattle.jdwp_wire.specs.Widths.{Widths}
-use Rattle.jdwp_layout.specs.CommandNumbers.{CLEAR_REQUEST, is_command}
+use Rattle.jdwp_layout.specs.CommandNumbers.{CommandNumber, is_command, SUSPEND, RESUME, HOLD_EVENTS, RELEASE_EVENTS, ID_SIZES, DISPOSE, CLEAR_ALL_BREAKPOINTS, SUSPEND_THREAD, RESUME_THREAD, THREAD_STATUS, SUSPEND_COUNT, CLEAR_REQUEST}
 use Rattle.jdwp_layout.specs.CommandTable.{row_at}
 use Rattle.jdwp_layout.specs.Meanings.{ScalarMeaning, DatumMeaning, entry_meaning, entry_meanings}
 use Rattle.jdwp_layout.specs.Reads.{data_at}
@@ -23,7 +24,9 @@ use Rattle.jdwp_action.specs.Actions.{Command, slot_of, is_implemented}
 use Rattle.jdwp_action.specs.CommandReads.{command_read, content_read, read_by, with_content}
 use Rattle.jdwp_action.specs.RowLayouts.{row_request}
 use Rattle.jdwp_debuggee.specs.Askings.{Asking, asked_meaning, asks, asking_of, carries_nothing, carries_thread, is_short}
-use Rattle.jdwp_debuggee.specs.ReadParts.{IsBare, implemented_request, unread}
+use Rattle.jdwp_machine.specs.declared.profile.Profile.{Profile}
+use Rattle.jdwp_debuggee.specs.Answering.{is_answered, read_as}
+use Rattle.jdwp_debuggee.specs.ReadParts.{IsBare, answered_request, unread}
 
 -- one entry more of a list of slots
 pub slots_more : (xs ys : List (List ScalarMeaning)) → filter_map slot_of (xs ++ ys) ≡ filter_map slot_of xs ++ filter_map slot_of ys
@@ -59,31 +62,31 @@ read_by_is : (w : Widths) (set number : ℕ) (bytes : List ℕ) (b : Bool) (item
 read_by_is w set number bytes true items e = ap (λ (shapes : List ItemShape). content_read set number (data_at w shapes bytes)) (some_is _ _ e)
 read_by_is w set number bytes false items e = absurd cc
 
-pub read_is : (w : Widths) (set number : ℕ) (bytes : List ℕ) (items : List ItemShape) → implemented_request set number ≡ Some items
-    → command_read w set number bytes ≡ content_read set number (data_at w items bytes)
-read_is w set number bytes items e = read_by_is w set number bytes (is_implemented (unread set number)) items e
+pub read_is : (p : Profile) (w : Widths) (set number : ℕ) (bytes : List ℕ) (items : List ItemShape) → answered_request p set number ≡ Some items
+    → read_as p w set number bytes ≡ content_read set number (data_at w items bytes)
+read_is p w set number bytes items e = read_by_is w set number bytes (is_answered p (unread set number)) items e
 
 unread_by : (w : Widths) (set number : ℕ) (bytes : List ℕ) (b : Bool) → (if b then Some (row_request (row_at set number)) else None) ≡ None
     → read_by w set number bytes b ≡ Err NOT_IMPLEMENTED
 unread_by w set number bytes true e = absurd cc
 unread_by w set number bytes false e = refl
 
-pub unread_is : (w : Widths) (set number : ℕ) (bytes : List ℕ) → implemented_request set number ≡ None → command_read w set number bytes ≡ Err NOT_IMPLEMENTED
-unread_is w set number bytes e = unread_by w set number bytes (is_implemented (unread set number)) e
+pub unread_is : (p : Profile) (w : Widths) (set number : ℕ) (bytes : List ℕ) → answered_request p set number ≡ None → read_as p w set number bytes ≡ Err NOT_IMPLEMENTED
+unread_is p w set number bytes e = unread_by w set number bytes (is_answered p (unread set number)) e
 
-asks_is : (w : Widths) (set number : ℕ) (bytes : List ℕ) (items : List ItemShape) → implemented_request set number ≡ Some items
-    → asks (command_read w set number bytes) ≡ asks (content_read set number (data_at w items bytes))
-asks_is w set number bytes items e = ap (λ (r : Result Command ErrorCode). asks r) (read_is w set number bytes items e)
+asks_is : (p : Profile) (w : Widths) (set number : ℕ) (bytes : List ℕ) (items : List ItemShape) → answered_request p set number ≡ Some items
+    → asks (read_as p w set number bytes) ≡ asks (content_read set number (data_at w items bytes))
+asks_is p w set number bytes items e = ap (λ (r : Result Command ErrorCode). asks r) (read_is p w set number bytes items e)
 
-pub asks_content : (w : Widths) (set number : ℕ) (bytes : List ℕ) (items : List ItemShape) (content : List DatumMeaning) (a : Asking) → implemented_request set number ≡ Some items
-    → data_at w items bytes ≡ Ok content → a ≡ asking_of (with_content set number content) → Ok a ≡ asks (command_read w set number bytes)
-asks_content w set number bytes items content a e found law =
+pub asks_content : (p : Profile) (w : Widths) (set number : ℕ) (bytes : List ℕ) (items : List ItemShape) (content : List DatumMeaning) (a : Asking) → answered_request p set number ≡ Some items
+    → data_at w items bytes ≡ Ok content → a ≡ asking_of (with_content set number content) → Ok a ≡ asks (read_as p w set number bytes)
+asks_content p w set number bytes items content a e found law =
     ap (λ (x : Asking). Ok x) law ∙ ap (λ (d : Result (List DatumMeaning) DataFault). asks (content_read set number d)) (sym found)
-    ∙ sym (asks_is w set number bytes items e)
+    ∙ sym (asks_is p w set number bytes items e)
 
-pub asks_refused : (w : Widths) (set number : ℕ) (bytes : List ℕ) (items : List ItemShape) (answer : Result ParsedCommand NoMemory) → implemented_request set number ≡ Some items
-    → IfOk answer (λ asked. asked_meaning asked ≡ asks (content_read set number (data_at w items bytes))) → IfOk answer (λ asked. asked_meaning asked ≡ asks (command_read w set number bytes))
-asks_refused w set number bytes items answer e law = rw (asks_is w set number bytes items e) law
+pub asks_refused : (p : Profile) (w : Widths) (set number : ℕ) (bytes : List ℕ) (items : List ItemShape) (answer : Result ParsedCommand NoMemory) → answered_request p set number ≡ Some items
+    → IfOk answer (λ asked. asked_meaning asked ≡ asks (content_read set number (data_at w items bytes))) → IfOk answer (λ asked. asked_meaning asked ≡ asks (read_as p w set number bytes))
+asks_refused p w set number bytes items answer e law = rw (asks_is p w set number bytes items e) law
 
 -- ---- a command that carries nothing
 
@@ -95,3 +98,38 @@ bare_reads w set number a bytes (impl, shape, law) e = rw (impl, shape, e) (ap (
 
 pub asks_nothing : (w : Widths) (set number : ℕ) (a : Asking) (bytes : List ℕ) → IsBare a set number → length bytes ≡ 0 → Ok a ≡ asks (command_read w set number bytes)
 asks_nothing w set number a bytes law none = sym (bare_reads w set number a bytes law (nothing_at w bytes none))
+
+-- ---- a command that is read without memory is answered in each profile
+
+both_true : (a b : Bool) → (a && b) ≡ true → (a ≡ true) × (b ≡ true)
+both_true true b h = (refl, h)
+both_true false b h = absurd cc
+
+implemented_at : (k : CommandNumber) (set number : ℕ) → is_implemented (unread k.set k.number) ≡ true → is_command k set number ≡ true → is_implemented (unread set number) ≡ true
+implemented_at k set number impl h =
+    let is = both_true (set == k.set) (number == k.number) h in
+    rw (eqb-true set k.set is.0, eqb-true number k.number is.1) impl
+
+either_true : (a b : Bool) (P : Type 0) → (a ≡ true → P) → (b ≡ true → P) → (a || b) ≡ true → P
+either_true true b P f g h = f refl
+either_true false b P f g h = g h
+
+short_implemented : (set number : ℕ) → is_short set number ≡ true → is_implemented (unread set number) ≡ true
+short_implemented set number h =
+    let P = is_implemented (unread set number) ≡ true in
+    either_true (carries_nothing set number) (carries_thread set number || is_command CLEAR_REQUEST set number) P
+    (either_true (is_command SUSPEND set number) _ P (implemented_at SUSPEND set number refl) (
+    either_true (is_command RESUME set number) _ P (implemented_at RESUME set number refl) (
+    either_true (is_command HOLD_EVENTS set number) _ P (implemented_at HOLD_EVENTS set number refl) (
+    either_true (is_command RELEASE_EVENTS set number) _ P (implemented_at RELEASE_EVENTS set number refl) (
+    either_true (is_command ID_SIZES set number) _ P (implemented_at ID_SIZES set number refl) (
+    either_true (is_command DISPOSE set number) _ P (implemented_at DISPOSE set number refl) (implemented_at CLEAR_ALL_BREAKPOINTS set number refl)))))))
+    (either_true (carries_thread set number) _ P
+    (either_true (is_command SUSPEND_THREAD set number) _ P (implemented_at SUSPEND_THREAD set number refl) (
+    either_true (is_command RESUME_THREAD set number) _ P (implemented_at RESUME_THREAD set number refl) (
+    either_true (is_command THREAD_STATUS set number) _ P (implemented_at THREAD_STATUS set number refl) (implemented_at SUSPEND_COUNT set number refl))))
+    (implemented_at CLEAR_REQUEST set number refl)) h
+
+-- and it is read alike in each
+pub short_reads : (p : Profile) (w : Widths) (set number : ℕ) (bytes : List ℕ) → is_short set number ≡ true → read_as p w set number bytes ≡ command_read w set number bytes
+short_reads p w set number bytes h = let i = short_implemented set number h in rw i refl

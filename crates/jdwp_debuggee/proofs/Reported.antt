@@ -17,6 +17,7 @@ use Rattle.jdwp_machine.specs.Meanings.{Meaning}
 use Rattle.jdwp_debuggee.specs.Settings.{Settings}
 use Rattle.jdwp_debuggee.specs.State.{State, Moment, is_marked}
 use Rattle.jdwp_action.specs.Actions
+use Rattle.jdwp_debuggee.specs.Answering.{is_answered}
 use Rattle.jdwp_action.specs.Actions.{Carried, Content, Command, Action, action_of, action_by, thread_of, thread_action, other_action, slots_of, set_action, clear_action, carries_out, is_implemented}
 use Rattle.jdwp_action.specs.AnswerPackets.{sizes_answer}
 use Rattle.jdwp_debuggee.specs.Refusals.{or_else, unless, set_refusal}
@@ -82,7 +83,8 @@ sizes-implemented c h =
 
 pub sizes_effect : {S : Type 0} (m : Meaning S) (settings : Settings) (now : Moment S) (c : Command) → action_of c ≡ Actions.IdSizes → (effect m settings now c).answer ≡ sizes_answer (m.sizes now.machine)
 sizes_effect m settings now c e =
-    let i : is_implemented c ≡ true = sizes-implemented c (sizes-command c (ap is_sizes e)) in
+    let h : is_implemented c ≡ true = sizes-implemented c (sizes-command c (ap is_sizes e)) in
+    let i : is_answered settings.profile c ≡ true = rw h refl in
     ap (λ b. (effect_by m settings now c b).answer) i ∙ ap (λ a. (does m settings now c a).answer) e
 
 -- ---- policies
@@ -108,7 +110,7 @@ policy-by m settings now c byte policy entries true e h =
     set-policy m settings now byte policy (modifiers_of entries) (set-accepted m now byte policy (modifiers_of entries) _ (subst (λ a. is_data (does m settings now c a).answer ≡ true) e h))
 
 pub policy_accepted : {S : Type 0} (m : Meaning S) (settings : Settings) (now : Moment S) (c : Command) (byte policy : ℕ) (entries : List (List ScalarMeaning)) → action_of c ≡ Actions.SetRequest byte policy entries → is_data (effect m settings now c).answer ≡ true → policy ≤ POLICY_ALL
-policy_accepted m settings now c byte policy entries e h = policy-by m settings now c byte policy entries (is_implemented c) e h
+policy_accepted m settings now c byte policy entries e h = policy-by m settings now c byte policy entries (is_answered settings.profile c) e h
 
 -- ---- what is reported
 

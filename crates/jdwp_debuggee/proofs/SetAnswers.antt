@@ -20,6 +20,7 @@ use Rattle.jdwp_event.specs.Modifiers.{ModifierMeaning, Count, Conditional, Thre
 use Rattle.jdwp_machine.specs.Laws.{IsLawful, MayAnswer}
 use Rattle.jdwp_machine.specs.Meanings.{Meaning}
 use Rattle.jdwp_debuggee.specs.Effects.{set_by}
+use Rattle.jdwp_machine.specs.declared.profile.Profile.{Profile}
 use Rattle.jdwp_debuggee.specs.Refusals.{or_else, unless, is_kind, is_one_of, requestable, kind_refusal, kind_refusal_by, LAST_REQUEST, room_refusal, is_some_count, thread_refusal, class_refusal, class_refusal_by, signature_query, location_query, location_refusal, location_refusal_by, of_threads, without_locations, not_in, is_size, is_depth, exception_refusal, modifier_refusal, modifiers_refusal, is_location, is_step, shape_refusal, set_refusal}
 use Rattle.jdwp_action.specs.AnswerPackets.{EncodesAnswer}
 use Rattle.jdwp_action.specs.RowLayouts.{row_reply}
@@ -40,9 +41,9 @@ unless-error : (b : Bool) (e : ErrorCode) → 1 ≤ e.0 → IsError (unless b e)
 unless-error true e h = tt
 unless-error false e h = h
 
-kind-error : (byte : ℕ) (k : Option EventKind) → IsError (kind_refusal_by byte k)
-kind-error byte None = omega arith
-kind-error byte (Some k) = unless-error (is_one_of requestable byte) NOT_IMPLEMENTED (omega arith)
+kind-error : (profile : Profile) (byte : ℕ) (k : Option EventKind) → IsError (kind_refusal_by profile byte k)
+kind-error profile byte None = omega arith
+kind-error profile byte (Some k) = unless-error (is_one_of (requestable profile) byte) NOT_IMPLEMENTED (omega arith)
 
 class-error : (a : Answer) → IsError (class_refusal_by a)
 class-error (Error e) = unless-error (not (e.0 == INVALID_CLASS.0)) INVALID_CLASS (omega arith)
@@ -102,7 +103,7 @@ set-error m law settings now is byte policy modifiers =
     let named = or_else (modifiers_refusal m now byte modifiers) shape in
     let roomy = or_else (room_refusal settings now.state) named in
     let suits = or_else (unless (nat_le policy POLICY_ALL) ILLEGAL_ARGUMENT) roomy in
-    or-error (kind_refusal byte) suits (kind-error byte (kind_of_byte byte)) (
+    or-error (kind_refusal settings.profile byte) suits (kind-error settings.profile byte (kind_of_byte byte)) (
     or-error (unless (nat_le policy POLICY_ALL) ILLEGAL_ARGUMENT) roomy (unless-error (nat_le policy POLICY_ALL) ILLEGAL_ARGUMENT (omega arith)) (
     or-error (room_refusal settings now.state) named (unless-error (nat_lt (length now.state.requests) settings.limits.requests && nat_le now.state.next_request LAST_REQUEST) INTERNAL (omega arith)) (
     or-error (modifiers_refusal m now byte modifiers) shape (modifiers-error m law now is byte modifiers) (shape-error byte modifiers))))
@@ -127,7 +128,7 @@ next-most m settings now byte policy modifiers h =
     let named = or_else (modifiers_refusal m now byte modifiers) shape in
     let roomy = or_else (room_refusal settings now.state) named in
     let suits = or_else (unless (nat_le policy POLICY_ALL) ILLEGAL_ARGUMENT) roomy in
-    let one = or-none (kind_refusal byte) suits h in
+    let one = or-none (kind_refusal settings.profile byte) suits h in
     let two = or-none (unless (nat_le policy POLICY_ALL) ILLEGAL_ARGUMENT) roomy one.1 in
     let three = or-none (room_refusal settings now.state) named two.1 in
     let test = unless-none (nat_lt (length now.state.requests) settings.limits.requests && nat_le now.state.next_request LAST_REQUEST) INTERNAL three.0 in

@@ -11,8 +11,9 @@ use Rattle.jdwp_layout.specs.Meanings.{DatumMeaning}
 use Rattle.jdwp_layout.specs.Reads.{data_at}
 use Rattle.jdwp_layout.specs.Shapes.{ItemShape}
 use Rattle.jdwp_layout.proofs.GrammarLaws.{data_again}
-use Rattle.jdwp_action.specs.CommandReads.{command_read}
-use Rattle.jdwp_debuggee.specs.ReadParts.{implemented_request}
+use Rattle.jdwp_machine.specs.declared.profile.Profile.{Profile}
+use Rattle.jdwp_debuggee.specs.Answering.{read_as}
+use Rattle.jdwp_debuggee.specs.ReadParts.{answered_request}
 use Rattle.jdwp_debuggee.specs.Sending.{sent_short}
 use Rattle.jdwp_debuggee.specs.Wants.{ReadsData}
 use Rattle.jdwp_debuggee.specs.declared.command.ParsedCommand.{ParsedCommand}
@@ -22,9 +23,9 @@ use Rattle.jdwp_debuggee.proofs.Read.{read_is}
 -- ---- reading
 
 -- a command whose data read, and are some
-pub read-whole : (w : Widths) (set number : ℕ) (bytes : List ℕ) (items : List ItemShape) (content : List DatumMeaning) → implemented_request set number ≡ Some items
-    → data_at w items bytes ≡ Ok content → (content ≡ [] → ⊥) → ReadsData (command_read w set number bytes)
-read-whole w set number bytes items content e found some = rw (read_is w set number bytes items e, found) some
+pub read-whole : (p : Profile) (w : Widths) (set number : ℕ) (bytes : List ℕ) (items : List ItemShape) (content : List DatumMeaning) → answered_request p set number ≡ Some items
+    → data_at w items bytes ≡ Ok content → (content ≡ [] → ⊥) → ReadsData (read_as p w set number bytes)
+read-whole p w set number bytes items content e found some = rw (read_is p w set number bytes items e, found) some
 
 -- where something has to be kept, there are data
 kept-some : (w : Widths) (items : List ItemShape) (xs : List DatumMeaning) (bytes : List ℕ) → EncodesData w items xs bytes → DataAreKept w items bytes → xs ≡ [] → ⊥
@@ -33,13 +34,13 @@ kept-some w (item ∷ items) [] bytes encoded kept none = encoded
 kept-some w (item ∷ items) (x ∷ xs) bytes encoded kept none = absurd cc
 
 -- memory is wanted only for data that are encoded
-pub read-encoded : (w : Widths) (set number : ℕ) (bytes : List ℕ) (items : List ItemShape) (found : DataFault) (answer : Result ParsedCommand NoMemory) → implemented_request set number ≡ Some items
+pub read-encoded : (p : Profile) (w : Widths) (set number : ℕ) (bytes : List ℕ) (items : List ItemShape) (found : DataFault) (answer : Result ParsedCommand NoMemory) → answered_request p set number ≡ Some items
     → (found ≡ fault.NoMemory → (xs : List DatumMeaning) × EncodesData w items xs bytes) → (found ≡ fault.NoMemory → DataAreKept w items bytes)
-    → IfErr answer (λ _. found ≡ fault.NoMemory) → IfErr answer (λ _. ReadsData (command_read w set number bytes))
-read-encoded w set number bytes items found (Ok asked) e hides keeps is = tt
-read-encoded w set number bytes items found (Err error) e hides keeps is =
+    → IfErr answer (λ _. found ≡ fault.NoMemory) → IfErr answer (λ _. ReadsData (read_as p w set number bytes))
+read-encoded p w set number bytes items found (Ok asked) e hides keeps is = tt
+read-encoded p w set number bytes items found (Err error) e hides keeps is =
     let encoded = hides is in
-    read-whole w set number bytes items encoded.0 e (data_again w items bytes encoded.0 encoded.1) (kept-some w items encoded.0 bytes encoded.1 (keeps is))
+    read-whole p w set number bytes items encoded.0 e (data_again w items bytes encoded.0 encoded.1) (kept-some w items encoded.0 bytes encoded.1 (keeps is))
 
 -- ---- what is answered
 

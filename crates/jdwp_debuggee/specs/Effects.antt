@@ -12,7 +12,8 @@ use Rattle.jdwp_machine.specs.Meanings.{Meaning}
 use Rattle.jdwp_debuggee.specs.Settings.{Settings}
 use Rattle.jdwp_debuggee.specs.State.{State, Moment, count_of, with_counts, raised, lowered, only, at_limit, reset, dead}
 use Rattle.jdwp_action.specs.Actions
-use Rattle.jdwp_action.specs.Actions.{Command, Action, action_of, is_implemented}
+use Rattle.jdwp_action.specs.Actions.{Command, Action, action_of}
+use Rattle.jdwp_debuggee.specs.Answering.{is_answered}
 use Rattle.jdwp_debuggee.specs.Origins.{origin_of}
 use Rattle.jdwp_debuggee.specs.Refusals.{set_refusal}
 use Rattle.jdwp_action.specs.AnswerPackets.{sizes_answer}
@@ -186,4 +187,4 @@ effect_by m settings now c true = does m settings now c (action_of c)
 
 -- What a command whose data read does, and what it is answered. A command that is refused changes nothing.
 abbrev pub effect : {S : Type 0} → Meaning S → Settings → Moment S → Command → Effect S
-effect m settings now c = effect_by m settings now c (is_implemented c)
+effect m settings now c = effect_by m settings now c (is_answered settings.profile c)

@@ -8,6 +8,7 @@ pub mod Answers
 pub mod Askings
 pub mod ActionParts
 pub mod ReadParts
+pub mod Answering
 pub mod Effects
 pub mod Steps
 pub mod Breadth

@@ -1,9 +1,10 @@
 -- Parts of reading commands.
-use Rattle.std.specs.Prelude.{◌≡◌, ℕ, ℤ, ◌==◌, Bool, true, false, List, [], ◌∷◌, length, Option, Some, None, Result, Ok, Err, if◌then◌else◌}
+use Rattle.std.specs.Prelude.{◌≡◌, ℕ, ℤ, ◌==◌, ◌||◌, Bool, true, false, List, [], ◌∷◌, length, Option, Some, None, Result, Ok, Err, if◌then◌else◌}
 use Rattle.byteorder.specs.Endian.{big_number}
 use Rattle.jdwp_wire.specs.declared.data_fault.DataFault.{DataFault}
 use Rattle.jdwp_wire.specs.declared.error_code.ErrorCode.{ErrorCode}
 use Rattle.jdwp_wire.specs.ErrorCodes.{ILLEGAL_ARGUMENT}
+use Rattle.jdwp_layout.specs.CommandNumbers.{STACK_FRAME, THREAD_REFERENCE}
 use Rattle.jdwp_layout.specs.CommandTable.{row_at}
 use Rattle.jdwp_layout.specs.Meanings.{DatumMeaning, ScalarMeaning}
 use Rattle.jdwp_layout.specs.Shapes.{ItemShape, OneOf}
@@ -12,6 +13,8 @@ use Rattle.jdwp_action.specs.Actions
 use Rattle.jdwp_action.specs.Actions.{Action, Command, Raw, is_implemented}
 use Rattle.jdwp_action.specs.CommandReads.{with_content}
 use Rattle.jdwp_action.specs.RowLayouts.{row_request}
+use Rattle.jdwp_machine.specs.declared.profile.Profile.{Profile}
+use Rattle.jdwp_debuggee.specs.Answering.{is_answered}
 use Rattle.jdwp_debuggee.specs.Askings.{Asking, asking_of}
 
 abbrev pub unread : ℕ → ℕ → Command
@@ -34,8 +37,9 @@ clear_asks (Err fault) = Err ILLEGAL_ARGUMENT
 
 -- ---- layouts
 
-abbrev pub implemented_request : ℕ → ℕ → Option (List ItemShape)
-implemented_request set number = if is_implemented (unread set number) then Some (row_request (row_at set number)) else None
+-- the layout of a command's data, where the command is answered in the profile
+abbrev pub answered_request : Profile → ℕ → ℕ → Option (List ItemShape)
+answered_request profile set number = if is_answered profile (unread set number) then Some (row_request (row_at set number)) else None
 
 -- ---- what data begin with
 
@@ -43,6 +47,10 @@ implemented_request set number = if is_implemented (unread set number) then Some
 abbrev pub begin_with_object : List ItemShape → Bool
 begin_with_object (OneOf field.ObjectId ∷ items) = true
 begin_with_object items = false
+
+-- the commands of these sets begin with a thread
+abbrev pub begins_with_thread : ℕ → Bool
+begins_with_thread set = (set == THREAD_REFERENCE) || (set == STACK_FRAME)
 
 -- the kind and the policy that the data of a Set begin with, as it asks for them
 abbrev pub AsksFor : Option (ℕ × ℕ) → Action → Type 0

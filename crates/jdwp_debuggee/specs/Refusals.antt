@@ -19,6 +19,8 @@ use Rattle.jdwp_event.specs.Modifiers.{ModifierMeaning, Count, Conditional, Thre
 use Rattle.jdwp_machine.specs.declared.query.Query.{Query}
 use Rattle.jdwp_machine.specs.Laws.{breakpoint_at}
 use Rattle.jdwp_machine.specs.Meanings.{Meaning}
+use Rattle.jdwp_machine.specs.declared.profile.Profile.{Profile}
+use Rattle.jdwp_machine.specs.declared.profile.Profile.TheVariants.{Standard, Jdi}
 use Rattle.jdwp_debuggee.specs.Settings.{Settings}
 use Rattle.jdwp_debuggee.specs.State.{State, Moment, count_of}
 
@@ -39,19 +41,24 @@ is_kind k byte = byte == kind_byte k
 abbrev pub is_one_of : List EventKind → ℕ → Bool
 is_one_of kinds byte = list_any (λ (k : EventKind). byte == kind_byte k) kinds
 
--- the kinds that may be requested
-abbrev pub requestable : List EventKind
-requestable =
+-- the kinds that may be requested in each profile
+abbrev pub requestable_anywhere : List EventKind
+requestable_anywhere =
     kind.SingleStep ∷ kind.Breakpoint ∷ kind.Exception ∷ kind.ThreadStart ∷ kind.ThreadDeath ∷ kind.ClassPrepare ∷
     kind.MethodEntry ∷ kind.MethodExit ∷ kind.MethodExitWithReturnValue ∷ []
 
--- a byte of no kind, and a kind that is not implemented
-abbrev pub kind_refusal_by : ℕ → Option EventKind → Option ErrorCode
-kind_refusal_by byte None = Some INVALID_EVENT_TYPE
-kind_refusal_by byte (Some k) = unless (is_one_of requestable byte) NOT_IMPLEMENTED
+-- and those of a profile: debuggers over the Java Debug Interface may ask for the unloading of classes, which never happens
+abbrev pub requestable : Profile → List EventKind
+requestable Standard = requestable_anywhere
+requestable Jdi = kind.ClassUnload ∷ requestable_anywhere
 
-abbrev pub kind_refusal : ℕ → Option ErrorCode
-kind_refusal byte = kind_refusal_by byte (kind_of_byte byte)
+-- a byte of no kind, and a kind that is not implemented
+abbrev pub kind_refusal_by : Profile → ℕ → Option EventKind → Option ErrorCode
+kind_refusal_by profile byte None = Some INVALID_EVENT_TYPE
+kind_refusal_by profile byte (Some k) = unless (is_one_of (requestable profile) byte) NOT_IMPLEMENTED
+
+abbrev pub kind_refusal : Profile → ℕ → Option ErrorCode
+kind_refusal profile byte = kind_refusal_by profile byte (kind_of_byte byte)
 
 -- ---- room
 
@@ -105,7 +112,7 @@ of_threads = kind.ThreadStart ∷ kind.ThreadDeath ∷ []
 -- kinds at which a location says nothing of its own
 abbrev pub without_locations : List EventKind
 without_locations =
-    kind.ThreadStart ∷ kind.ThreadDeath ∷ kind.ClassPrepare ∷ kind.MethodEntry ∷ kind.MethodExit ∷ kind.MethodExitWithReturnValue ∷ []
+    kind.ThreadStart ∷ kind.ThreadDeath ∷ kind.ClassPrepare ∷ kind.ClassUnload ∷ kind.MethodEntry ∷ kind.MethodExit ∷ kind.MethodExitWithReturnValue ∷ []
 
 abbrev pub not_in : List EventKind → ℕ → Option ErrorCode
 not_in kinds byte = unless (not (is_one_of kinds byte)) ILLEGAL_ARGUMENT
@@ -163,7 +170,7 @@ shape_refusal byte modifiers =
 
 abbrev pub set_refusal : {S : Type 0} → Meaning S → Settings → Moment S → ℕ → ℕ → List ModifierMeaning → Option ErrorCode
 set_refusal m settings now byte policy modifiers =
-    or_else (kind_refusal byte) (
+    or_else (kind_refusal settings.profile byte) (
     or_else (unless (nat_le policy POLICY_ALL) ILLEGAL_ARGUMENT) (
     or_else (room_refusal settings now.state) (
     or_else (modifiers_refusal m now byte modifiers) (

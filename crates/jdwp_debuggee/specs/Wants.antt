@@ -35,7 +35,7 @@ is_suspended state t = is_positive (count_of state t)
 -- the refusals of a Set that come before those of its modifiers: by its kind, its policy, and room
 abbrev pub early_refusal : Settings → State → ℕ → ℕ → Option ErrorCode
 early_refusal settings state byte policy =
-    or_else (kind_refusal byte) (
+    or_else (kind_refusal settings.profile byte) (
     or_else (unless (nat_le policy POLICY_ALL) ILLEGAL_ARGUMENT) (
     room_refusal settings state))
 

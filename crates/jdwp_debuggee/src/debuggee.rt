@@ -15,7 +15,7 @@ use crate::settings::Settings;
 use crate::steps::suspend_by;
 use crate::threads::Threads;
 use jdwp_event::{Policy, Requests};
-use jdwp_machine::Machine;
+use jdwp_machine::{Machine, Profile};
 use jdwp_value::ObjectId;
 use jdwp_wire::{IdSizes, NoMemory};
 use std::alloc::Global;
@@ -78,6 +78,13 @@ impl<M: Machine> Model for Debuggee<M> {
 }
 
 impl<M: Machine> Debuggee<M> {
+    /// The profile.
+    pub fn profile(&self) -> Profile
+        ensures { result ≡ self.now.settings.profile }
+    {
+        self.settings.profile()
+    }
+
     /// A debuggee before its first session: all threads of the machine run.
     ///
     /// # Errors

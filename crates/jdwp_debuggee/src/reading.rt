@@ -9,7 +9,8 @@ ghost use Rattle.jdwp_layout.specs.Meanings.{DatumMeaning};
 ghost use Rattle.jdwp_action.specs.CommandReads.{command_read, content_read};
 ghost use Rattle.jdwp_debuggee.specs.Askings.{action_meaning, asked_meaning, asking, asks, carries_nothing, is_short};
 ghost use Rattle.jdwp_action.specs.RowLayouts.{found_layout};
-ghost use Rattle.jdwp_debuggee.specs.ReadParts.{IsBare, clear_asks, implemented_request, object_alone};
+ghost use Rattle.jdwp_debuggee.specs.Answering.{read_as};
+ghost use Rattle.jdwp_debuggee.specs.ReadParts.{IsBare, answered_request, clear_asks, object_alone};
 ghost use Rattle.jdwp_debuggee.specs.RefusalParts.{found_thread};
 ghost use Rattle.jdwp_debuggee.specs.Sending.{is_short_action, is_short_asked};
 ghost use Rattle.jdwp_debuggee.specs.Wants.{ReadsData};
@@ -21,6 +22,7 @@ use jdwp_layout::numbers::{
     THREAD_REFERENCE, THREAD_STATUS, VIRTUAL_MACHINE,
 };
 use jdwp_layout::{Data, Layout, layout_of, read};
+use jdwp_machine::Profile;
 use jdwp_value::ObjectId;
 use jdwp_wire::{DataFault, ErrorCode, IdSizes, NoMemory, Wire};
 use std::alloc::Global;
@@ -160,21 +162,21 @@ fn refused(fault: DataFault) -> Result<ParsedCommand, NoMemory>
     }
 }
 
-/// The layout of a command's data, where the command is implemented.
-pub(crate) fn request_of(set: u8, number: u8) -> Option<Layout>
-    ensures { found_layout result ≡ implemented_request set number }
+/// The layout of a command's data, where the command is answered in the profile.
+pub(crate) fn request_of(profile: Profile, set: u8, number: u8) -> Option<Layout>
+    ensures { found_layout result ≡ answered_request profile set number }
 {
     let row = layout_of(set, number)?;
     let layouts = row.layouts?;
-    if row.starred || set == EVENT {
+    if (row.starred || set == EVENT) && !profile.adds(set, number) {
         return None;
     }
     Some(layouts.request)
 }
 
-/// What a command of this set and number comes to that has these bytes as its data.
+/// What a command of this set and number comes to in the profile that has these bytes as its data.
 ///
-/// A command that is not implemented is refused with `NOT_IMPLEMENTED`, and its data are not read; one whose data do not read, or
+/// A command that is not answered in the profile is refused with `NOT_IMPLEMENTED`, and its data are not read; one whose data do not read, or
 /// leave bytes over, with `ILLEGAL_ARGUMENT`. These take no memory: VirtualMachine's Suspend, Resume, HoldEvents, ReleaseEvents,
 /// IDSizes and Dispose; ThreadReference's Suspend, Resume, Status and SuspendCount; EventRequest's Clear and ClearAllBreakpoints. What
 /// these ask for is carried out without memory, too.
@@ -184,22 +186,24 @@ pub(crate) fn request_of(set: u8, number: u8) -> Option<Layout>
 /// is refused takes no memory.
 pub fn read_command(
     alloc: Global,
+    profile: Profile,
     set: u8,
     number: u8,
     sizes: &IdSizes,
     bytes: &[u8],
 ) -> Result<ParsedCommand, NoMemory>
     ensures value { IfOk result (λ asked. asked_meaning asked
-        ≡ asks (command_read sizes.now set number bytes.now)) }
+        ≡ asks (read_as profile sizes.now set number bytes.now)) }
     ensures short { IfOk result (λ asked. is_short set number ≡ true
         → is_short_asked (asked_meaning asked) ≡ true) }
     ensures memory { IfErr result (λ _. is_short set number ≡ false) }
-    ensures reads { IfErr result (λ _. ReadsData (command_read sizes.now set number bytes.now)) }
+    ensures reads { IfErr result (λ _.
+        ReadsData (read_as profile sizes.now set number bytes.now)) }
 {
     if let Some(asked) = read_short(alloc, set, number, sizes, bytes) {
         return Ok(asked);
     }
-    let Some(layout) = request_of(set, number) else {
+    let Some(layout) = request_of(profile, set, number) else {
         return Ok(ParsedCommand::Refuses(ErrorCode::NOT_IMPLEMENTED));
     };
     match read(alloc, &layout, sizes, bytes) {

@@ -20,14 +20,28 @@ use jdwp_event::{EventKind, Modifier, Policy, StepDepth, StepOrigin, StepSize};
 use jdwp_layout::modifier_kinds::LOCATION_ONLY;
 use jdwp_layout::numbers::{EVENT_REQUEST, REFERENCE_TYPE, SET_REQUEST, SIGNATURE};
 use jdwp_layout::{Answer, Datum, Scalar};
-use jdwp_machine::Machine;
+use jdwp_machine::{Machine, Profile};
 use jdwp_value::{Location, ObjectId, ReferenceTypeId};
 use jdwp_wire::number::GREATEST_INT;
 use jdwp_wire::{ErrorCode, NoMemory};
 use std::alloc::Global;
 
-/// The kinds that may be requested.
+/// The kinds that may be requested in the standard profile.
 static REQUESTABLE: [EventKind; 9] = [
+    EventKind::SingleStep,
+    EventKind::Breakpoint,
+    EventKind::Exception,
+    EventKind::ThreadStart,
+    EventKind::ThreadDeath,
+    EventKind::ClassPrepare,
+    EventKind::MethodEntry,
+    EventKind::MethodExit,
+    EventKind::MethodExitWithReturnValue,
+];
+
+/// The kinds that may be requested in the profile for the Java Debug Interface.
+static REQUESTABLE_BY_JDI: [EventKind; 10] = [
+    EventKind::ClassUnload,
     EventKind::SingleStep,
     EventKind::Breakpoint,
     EventKind::Exception,
@@ -43,10 +57,11 @@ static REQUESTABLE: [EventKind; 9] = [
 static OF_THREADS: [EventKind; 2] = [EventKind::ThreadStart, EventKind::ThreadDeath];
 
 /// The kinds at which a location says nothing of its own.
-static WITHOUT_LOCATIONS: [EventKind; 6] = [
+static WITHOUT_LOCATIONS: [EventKind; 7] = [
     EventKind::ThreadStart,
     EventKind::ThreadDeath,
     EventKind::ClassPrepare,
+    EventKind::ClassUnload,
     EventKind::MethodEntry,
     EventKind::MethodExit,
     EventKind::MethodExitWithReturnValue,
@@ -84,13 +99,23 @@ fn is_one_of(kinds: &[EventKind], byte: u8) -> bool
     false
 }
 
-/// A kind byte of no kind, and a kind that is not implemented.
-fn kind_refusal(byte: u8) -> Option<ErrorCode>
-    ensures { result ≡ spec.kind_refusal byte }
+/// Whether it is the byte of a kind that may be requested in the profile.
+fn is_requestable(profile: Profile, byte: u8) -> bool
+    ensures { result ≡ spec.is_one_of (spec.requestable profile) byte }
+{
+    match profile {
+        Profile::Standard => is_one_of(&REQUESTABLE, byte),
+        Profile::Jdi => is_one_of(&REQUESTABLE_BY_JDI, byte),
+    }
+}
+
+/// A kind byte of no kind, and a kind that is not implemented in the profile.
+fn kind_refusal(profile: Profile, byte: u8) -> Option<ErrorCode>
+    ensures { result ≡ spec.kind_refusal profile byte }
 {
     match EventKind::of_byte(byte) {
         None => Some(ErrorCode::INVALID_EVENT_TYPE),
-        Some(_) => unless(is_one_of(&REQUESTABLE, byte), ErrorCode::NOT_IMPLEMENTED),
+        Some(_) => unless(is_requestable(profile, byte), ErrorCode::NOT_IMPLEMENTED),
     }
 }
 
@@ -288,7 +313,8 @@ impl<M: Machine> Debuggee<M> {
         let has_room = self.requests.len() < self.settings.limits().requests() as usize
             && self.next_request <= LAST_REQUEST;
         let room = unless(has_room, ErrorCode::INTERNAL);
-        or_else(kind_refusal(kind), or_else(policy_refusal(policy), room))
+        let suits = kind_refusal(self.settings.profile(), kind);
+        or_else(suits, or_else(policy_refusal(policy), room))
     }
 
     /// Why an event request of this kind is refused that is not refused before its modifiers are looked at; None where it is not. Each

@@ -1,5 +1,5 @@
 //! Commands that the debuggee refuses by itself, told from the beginning of their data and without memory.
-ghost use Rattle.std.specs.Prelude.{◌≡◌, ◌≤◌, List, Ok, false, IfSome};
+ghost use Rattle.std.specs.Prelude.{◌≡◌, ◌≤◌, List, Ok, true, false, IfSome};
 ghost use Rattle.jdwp_wire.specs.Widths.{Widths};
 ghost use Rattle.jdwp_layout.specs.CommandNumbers as commands;
 ghost use Rattle.jdwp_layout.specs.Meanings.{DatumMeaning};
@@ -7,6 +7,7 @@ ghost use Rattle.jdwp_layout.specs.Reads.{data_at};
 ghost use Rattle.jdwp_layout.specs.Shapes.{shapes};
 ghost use Rattle.jdwp_action.specs.Actions.{Command, action_of, first_object};
 ghost use Rattle.jdwp_action.specs.CommandReads.{command_read};
+ghost use Rattle.jdwp_debuggee.specs.Answering.{read_as};
 ghost use Rattle.jdwp_debuggee.specs.Askings.{is_short};
 ghost use Rattle.jdwp_debuggee.specs.Effects.{effect, refused};
 ghost use Rattle.jdwp_debuggee.specs.ReadParts as parts;
@@ -93,12 +94,14 @@ impl<M: Machine> Debuggee<M> {
         sizes: &IdSizes,
         bytes: &[u8],
     ) -> Option<ErrorCode>
-        ensures value { (c : Command) → command_read sizes.now set number bytes.now ≡ Ok c
+        ensures value { (c : Command) →
+            read_as self.now.settings.profile sizes.now set number bytes.now ≡ Ok c
             → is_short set number ≡ false
             → result ≡ spec.own_refusal self.now.settings self.now.moment.state (action_of c) }
         // It is what the command is answered, and nothing changes.
         ensures effect { IfSome result (λ error. (c : Command) →
-            command_read sizes.now set number bytes.now ≡ Ok c → is_short set number ≡ false
+            read_as self.now.settings.profile sizes.now set number bytes.now ≡ Ok c
+            → is_short set number ≡ false
             → effect M.meaning self.now.settings self.now.moment c
             ≡ refused self.now.moment error) }
         ensures code { IfSome result (λ error. 1 ≤ error.0) }
@@ -109,11 +112,30 @@ impl<M: Machine> Debuggee<M> {
                 self.early_refusal(kind, policy)
             }
             (THREAD_REFERENCE | STACK_FRAME, _) => {
-                let layout = request_of(set, number)?;
-                let thread = object_of(alloc, layout.items, sizes, bytes)?;
-                refusal_by_count(asks_of_frames(set, number), self.threads.count(thread))
+                self.refusal_about_thread(alloc, set, number, sizes, bytes)
             }
             _ => None,
         }
+    }
+
+    /// Why the debuggee refuses a command of ThreadReference or StackFrame by itself: its thread is not alive, or runs where it has to be
+    /// suspended. None where it does not, and where the command's data do not begin with a thread.
+    fn refusal_about_thread(
+        &self,
+        alloc: Global,
+        set: u8,
+        number: u8,
+        sizes: &IdSizes,
+        bytes: &[u8],
+    ) -> Option<ErrorCode>
+        ensures value { (c : Command) → parts.begins_with_thread set ≡ true
+            → read_as self.now.settings.profile sizes.now set number bytes.now ≡ Ok c
+            → is_short set number ≡ false
+            → result ≡ spec.own_refusal self.now.settings self.now.moment.state (action_of c) }
+        ensures code { IfSome result (λ error. 1 ≤ error.0) }
+    {
+        let layout = request_of(self.profile(), set, number)?;
+        let thread = object_of(alloc, layout.items, sizes, bytes)?;
+        refusal_by_count(asks_of_frames(set, number), self.threads.count(thread))
     }
 }

@@ -1,7 +1,7 @@
 //! Sessions served over any reader and writer.
 ghost use Rattle.std.specs.Prelude.{◌≡◌, ◌⊎◌, Ok, Err, IfOk, IfErr, OnErr};
 ghost use Rattle.jdwp_script.specs.declared.fault.ScriptFault.TheVariants.{NoMemory};
-ghost use Rattle.jdwp_script_machine.specs.Machines.{read_machine};
+ghost use Rattle.jdwp_script_machine.specs.Machines.{read_machine_as};
 ghost use Rattle.jdwp_script_machine.specs.ScriptMeaning.{script_meaning};
 ghost use Rattle.jdwp_script_machine.specs.States.{State};
 ghost use Rattle.jdwp_end.specs.Streams.{story_of};
@@ -33,14 +33,14 @@ pub fn serve_script<R: Read, W: Write>(
     rounds: u32,
 ) -> Result<Ended, ScriptFault>
     ensures served { IfOk result (λ ended. (machine : State)
-        × (read_machine settings.limits.live script.now ≡ Ok machine)
+        × (read_machine_as settings.profile settings.limits.live script.now ≡ Ok machine)
         × ServesNew script_meaning settings defer machine rounds (story_of pipe.old)
         (story_of pipe.new) ended) }
     ensures fault { IfErr result (λ fault. (fault ≡ NoMemory)
-        ⊎ (read_machine settings.limits.live script.now ≡ Err fault)) }
+        ⊎ (read_machine_as settings.profile settings.limits.live script.now ≡ Err fault)) }
     ensures untouched { OnErr result (pipe.new ≡ pipe.old) }
 {
-    let machine = ScriptMachine::read_with(alloc, script, &settings.limits())?;
+    let machine = ScriptMachine::read_as(alloc, settings.profile(), script, &settings.limits())?;
     Ok(serve_session(alloc, machine, settings, defer, pipe, rounds)?)
 }
 

@@ -3,7 +3,7 @@ ghost use Rattle.std.specs.Prelude.{◌≡◌, ◌≢◌, List, map, Ok, IfOk, I
 ghost use Rattle.std.specs.Io.KnownBytes.{Keeps};
 ghost use Rattle.std.specs.Str.{IsUtf8};
 ghost use Rattle.std.specs.Str.Lines.{lines};
-ghost use Rattle.jdwp_script_machine.specs.Machines.{read_machine};
+ghost use Rattle.jdwp_script_machine.specs.Machines.{read_machine_as};
 ghost use Rattle.jdwp_script_machine.specs.ScriptMeaning.{script_meaning};
 ghost use Rattle.jdwp_script_machine.specs.States.{State};
 ghost use Rattle.jdwp_end.specs.Streams.{story_of};
@@ -224,11 +224,11 @@ fn serve_bytes<'a, I: Read, O: Write>(
     pipe: &mut Streams<I, O>,
 ) -> Result<Ended, Fault<'a>>
     ensures served { IfOk result (λ ended. IsUtf8 bytes.now × (machine : State)
-        × (read_machine words.now.settings.limits.live bytes.now ≡ Ok machine)
+        × (read_machine_as words.now.settings.profile words.now.settings.limits.live bytes.now
+        ≡ Ok machine)
         × ServesNew script_meaning words.now.settings words.now.defer machine words.now.turns
         (story_of pipe.old) (story_of pipe.new) ended) }
-    ensures fault { IfErr result (RefusesScript words.now.settings.limits
-        words.now.machine bytes.now) }
+    ensures fault { IfErr result (RefusesScript words.now.settings words.now.machine bytes.now) }
     ensures untouched { OnErr result (pipe.new ≡ pipe.old) }
 {
     let script = text(words.machine, bytes)?;

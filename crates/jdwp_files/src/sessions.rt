@@ -3,7 +3,7 @@ ghost use Rattle.std.specs.Prelude.{◌≡◌, map, Ok, IfErr, IfOk, OnErr, fals
 ghost use Rattle.std.specs.Io.KnownBytes.{Keeps};
 ghost use Rattle.std.specs.Str.{IsUtf8};
 ghost use Rattle.std.specs.Str.Lines.{lines};
-ghost use Rattle.jdwp_script_machine.specs.Machines.{read_machine};
+ghost use Rattle.jdwp_script_machine.specs.Machines.{read_machine_as};
 ghost use Rattle.jdwp_script_machine.specs.ScriptMeaning.{script_meaning};
 ghost use Rattle.jdwp_script_machine.specs.States.{State};
 ghost use Rattle.jdwp_target.specs.Options.{LivesWithin};
@@ -125,7 +125,7 @@ fn target_of<'a, R: Files + AllocGlobal>(
     ensures { IfOk result (λ target. is_open target.value.end ≡ false) }
 {
     let bytes = read(rt, words.machine)?;
-    let machine = machine_of(rt.alloc(), words.machine, &bytes, &words.settings.limits())?;
+    let machine = machine_of(rt.alloc(), words.machine, &bytes, &words.settings)?;
     Ok(target_over(rt.alloc(), machine, words.settings, words.defer)?)
 }
 
@@ -281,7 +281,8 @@ fn pair_bytes<'a, C: Connection, O: Pipe>(
     out: &mut O,
 ) -> Result<Paired, Fault<'a>>
     ensures paired { IfOk result (λ run. (machine : State)
-        × (read_machine words.now.settings.limits.live script.now ≡ Ok machine)
+        × (read_machine_as words.now.settings.profile words.now.settings.limits.live script.now
+        ≡ Ok machine)
         × Says (lines plan.now) (map said_by run.plan.items)
         × PairsNew script_meaning words.now.settings words.now.defer words.now.order machine
         run.plan.items
@@ -290,7 +291,7 @@ fn pair_bytes<'a, C: Connection, O: Pipe>(
         ≡ is_disconnected run.ended) }
     ensures unprinted { OnErr result (out.new ≡ out.old) }
 {
-    let machine = machine_of(alloc, words.machine, script, &words.settings.limits())?;
+    let machine = machine_of(alloc, words.machine, script, &words.settings)?;
     let plan = plan_of(alloc, words.plan, plan)?;
     let (settings, defer, order, turns) = (words.settings, words.defer, words.order, words.turns);
     let ended = pair_session(
@@ -299,23 +300,25 @@ fn pair_bytes<'a, C: Connection, O: Pipe>(
     Ok(Paired { plan, ended })
 }
 
-/// The machine of the script of these bytes of a file.
+/// The machine of the script of these bytes of a file, in the profile and within the limits of these settings.
 fn machine_of<'a>(
     alloc: Global,
     file: &'a str,
     bytes: &[u8],
-    limits: &Limits,
+    settings: &Settings,
 ) -> Result<ScriptMachine, Fault<'a>>
     ensures machine { IfOk result (λ machine. IsUtf8 bytes.now
-        × (read_machine limits.now.live bytes.now ≡ Ok machine)) }
-    ensures lives { IfOk result (λ machine. LivesWithin script_meaning limits.now machine) }
-    ensures fault { IfErr result (RefusesScript limits.now file.entry bytes.now) }
+        × (read_machine_as settings.now.profile settings.now.limits.live bytes.now ≡ Ok machine)) }
+    ensures lives { IfOk result (λ machine.
+        LivesWithin script_meaning settings.now.limits machine) }
+    ensures fault { IfErr result (RefusesScript settings.now file.entry bytes.now) }
 {
     let script = text(file, bytes)?;
-    match ScriptMachine::read_with(alloc, script, limits) {
+    let limits = settings.limits();
+    match ScriptMachine::read_as(alloc, settings.profile(), script, &limits) {
         Ok(machine) => Ok(machine),
         Err(fault) => {
-            let detail = fault.detail(alloc, script, limits);
+            let detail = fault.detail(alloc, script, &limits);
             Err(Fault::of_script(file, fault, detail))
         }
     }

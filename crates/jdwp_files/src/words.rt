@@ -8,9 +8,10 @@ use clap::error::ErrorKind;
 use clap::{Arg, ArgAction, ArgMatches, Command, Error, value_parser};
 use jdwp_debuggee::Settings;
 use jdwp_debugger::Order;
+use jdwp_machine::Profile;
 use jdwp_program::{
     Attach, Between, CaptureFile, Fault, Pair, Peer, ServeScript, SessionFiles, VERSION, Words,
-    decimal, is_all, limits, order,
+    decimal, is_all, limits, order, profile,
 };
 use jdwp_wire::Limits;
 use jdwp_wire::number::GREATEST_INT;
@@ -104,6 +105,7 @@ enum Part {
     Memory,
     Start,
     CountLimit,
+    Profile,
     Order,
     Limits,
     Defer,
@@ -124,7 +126,7 @@ static OF_A_RECORDING: [Part; 3] = [
     Part::Stream,
 ];
 
-static OF_SERVE_SCRIPT: [Part; 11] = [
+static OF_SERVE_SCRIPT: [Part; 12] = [
     Part::Machine,
     Part::From("What the debugger sent, in bytes"),
     Part::To("Where the target's bytes are written"),
@@ -133,6 +135,7 @@ static OF_SERVE_SCRIPT: [Part; 11] = [
     Part::Pace,
     Part::Start,
     Part::CountLimit,
+    Part::Profile,
     Part::Limits,
     Part::Defer,
     Part::Turns("How many rounds a session has at most"),
@@ -284,14 +287,27 @@ fn read_serve_script<'a>(
 ) -> Result<ServeScript<'a>, Fault<'a>> {
     let count_limit = number(alloc, found, "count-limit", Name::ServeScript)?;
     let live = read_live(alloc, found)?;
+    let settings = read_settings(alloc, found, count_limit, Name::ServeScript)?;
     Ok(ServeScript {
-        settings: read_settings(alloc, found, count_limit, Name::ServeScript)?,
+        settings: settings.with_profile(read_profile(alloc, found)?),
         defer: found.get_flag("defer"),
         machine: value(alloc, found, "machine")?,
         peer: read_server_peer(alloc, found, live.is_some())?,
         turns: number(alloc, found, "turns", Name::ServeScript)?,
         live,
     })
+}
+
+/// The profile that the option says.
+fn read_profile<'a>(alloc: Global, found: &ArgMatches<'a>) -> Result<Profile, Fault<'a>> {
+    match profile(value(alloc, found, "profile")?) {
+        Some(profile) => Ok(profile),
+        None => Err(bad_words(
+            alloc,
+            named_in_full(alloc, Name::ServeScript),
+            "the options don't read",
+        )),
+    }
 }
 
 /// Whether sessions are live, and how many milliseconds pass at least between two steps then.
@@ -586,6 +602,7 @@ fn argument_of<'a>(alloc: Global, part: Part) -> Result<Arg<'a>, AllocError> {
         Part::Memory => Ok(memory(alloc)),
         Part::Start => Ok(start(alloc)),
         Part::CountLimit => Ok(count_limit(alloc)),
+        Part::Profile => Ok(profile_option(alloc)),
         Part::Order => Ok(order_option(alloc)),
         Part::Limits => Ok(limits_option(alloc)),
         Part::Defer => Ok(defer(alloc)),
@@ -665,6 +682,15 @@ fn count_limit<'a>(alloc: Global) -> Arg<'a> {
     option(alloc, "count-limit", "N", help)
         .value_parser(value_parser!(u32).range(1..=i64::from(GREATEST_INT)))
         .default_value("65535")
+}
+
+/// What the target answers.
+fn profile_option<'a>(alloc: Global) -> Arg<'a> {
+    let help =
+        "What the target answers: the standard commands, or also what debuggers over the Java Debug Interface ask for, as jdb and IDEs";
+    option(alloc, "profile", "PROFILE", help)
+        .value_parser(["standard", "jdi"].as_slice())
+        .default_value("standard")
 }
 
 /// In which order the target sends.

@@ -6,6 +6,7 @@ pub mod Delivering
 pub mod Attaching
 pub mod Losing
 pub mod Acting
+pub mod AskedAs
 pub mod Stepping
 pub mod Turning
 pub mod Releasing

@@ -12,9 +12,10 @@ use Rattle.jdwp_end.specs.Ends.{End, front_of, is_established_phase, is_paused, 
 use Rattle.jdwp_event.specs.CompositeBytes.{EncodesComposite, composite_canonical}
 use Rattle.jdwp_event.specs.Composites.{vm_death}
 use Rattle.jdwp_machine.specs.Meanings.{Meaning}
-use Rattle.jdwp_action.specs.Actions.{Command, action_of, is_implemented}
+use Rattle.jdwp_action.specs.Actions.{Command, action_of}
+use Rattle.jdwp_debuggee.specs.Answering.{is_answered, read_as}
+use Rattle.jdwp_link.proofs.AskedAs.{asked_as}
 use Rattle.jdwp_action.specs.AnswerPackets.{sizes_answer, EncodesAnswer}
-use Rattle.jdwp_action.specs.CommandReads.{command_read}
 use Rattle.jdwp_debuggee.specs.Deferring.{is_deferred}
 use Rattle.jdwp_debuggee.specs.Effects.{Effect, effect, effect_by}
 use Rattle.jdwp_debuggee.specs.Facts.{Facts, IsSound}
@@ -219,13 +220,14 @@ reply-acted {S} m w x now id k c e false puts phase sizes encoded tells = record
 }
 
 -- a command is carried out as it was asked
-carried-as : {S : Type 0} (m : Meaning S) (settings : Settings) (now : Moment S) (c : Command) (b : Bool) → is_implemented c ≡ b → carried_out m settings now (read_where c b) ≡ effect m settings now c
+carried-as : {S : Type 0} (m : Meaning S) (settings : Settings) (now : Moment S) (c : Command) (b : Bool) → is_answered settings.profile c ≡ b → carried_out m settings now (read_where c b) ≡ effect m settings now c
 carried-as m settings now c true e = refl
 carried-as m settings now c false e = ap (effect_by m settings now c) (sym e)
 
-carried-asked : {S : Type 0} (m : Meaning S) (settings : Settings) (now : Moment S) (w v : Widths) (c : Command) → ReadsMessages → v ≡ w → EncodesCommand w c → carried_out m settings now (command_read v c.set c.number (carried_bytes w c.carried)) ≡ effect m settings now c
+carried-asked : {S : Type 0} (m : Meaning S) (settings : Settings) (now : Moment S) (w v : Widths) (c : Command) → ReadsMessages → v ≡ w → EncodesCommand w c → carried_out m settings now (read_as settings.profile v c.set c.number (carried_bytes w c.carried)) ≡ effect m settings now c
 carried-asked m settings now w v c reads e h =
-    ap (λ u. carried_out m settings now (command_read u c.set c.number (carried_bytes w c.carried))) e ∙ (ap (carried_out m settings now) (reads.asked w c h) ∙ carried-as m settings now c (is_implemented c) refl)
+    ap (λ u. carried_out m settings now (read_as settings.profile u c.set c.number (carried_bytes w c.carried))) e
+    ∙ (ap (carried_out m settings now) (asked_as settings.profile w c h (reads.asked w c h)) ∙ carried-as m settings now c (is_answered settings.profile c) refl)
 
 -- IDSizes is answered the widths
 tells-widths : {S : Type 0} (m : Meaning S) (settings : Settings) (now : Moment S) (w : Widths) (k : Ticket) (c : Command) → PutsMessages m → m.sizes now.machine ≡ w → SuitsTicket k c → TellsWidths w k (effect m settings now c).answer
@@ -239,9 +241,9 @@ pub command-acted : {S : Type 0} (m : Meaning S) (settings : Settings) (w : Widt
 command-acted m settings w t z id k c laws facts sound sizes phase same_settings same_moment can encoded =
     let e = effect m settings z.now c in
     let v_is : m.sizes t.moment.machine ≡ w = ap (λ a. m.sizes a.machine) same_moment ∙ sizes in
-    let there : carried_out m t.settings t.moment (command_read (m.sizes t.moment.machine) c.set c.number (carried_bytes w c.carried)) ≡ e =
-    ap (λ u. carried_out m u t.moment (command_read (m.sizes t.moment.machine) c.set c.number (carried_bytes w c.carried))) same_settings
-    ∙ (ap (λ a. carried_out m settings a (command_read (m.sizes t.moment.machine) c.set c.number (carried_bytes w c.carried))) same_moment
+    let there : carried_out m t.settings t.moment (read_as t.settings.profile (m.sizes t.moment.machine) c.set c.number (carried_bytes w c.carried)) ≡ e =
+    ap (λ u. carried_out m u t.moment (read_as u.profile (m.sizes t.moment.machine) c.set c.number (carried_bytes w c.carried))) same_settings
+    ∙ (ap (λ a. carried_out m settings a (read_as settings.profile (m.sizes t.moment.machine) c.set c.number (carried_bytes w c.carried))) same_moment
     ∙ carried-asked m settings z.now w (m.sizes t.moment.machine) c laws.reads v_is can.0) in
     let says : EncodesAnswer w c.set c.number e.answer = subst (λ v. EncodesAnswer v c.set c.number e.answer) v_is (subst (λ f. EncodesAnswer (m.sizes t.moment.machine) c.set c.number f.answer) there encoded) in
     let does = facts.does z.now c sound in

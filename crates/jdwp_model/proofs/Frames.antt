@@ -13,7 +13,8 @@ use Rattle.jdwp_machine.specs.Laws.{IsLawful, asks_frames, begins_with}
 use Rattle.jdwp_debuggee.specs.Settings.{Settings}
 use Rattle.jdwp_debuggee.specs.State.{State, Moment, count_of, count_or_zero, or_zero, is_marked}
 use Rattle.jdwp_action.specs.Actions
-use Rattle.jdwp_action.specs.Actions.{Carried, Content, Raw, Command, Action, action_of, action_by, first_object, object_in, is_implemented}
+use Rattle.jdwp_debuggee.specs.Answering.{is_answered}
+use Rattle.jdwp_action.specs.Actions.{Carried, Content, Raw, Command, Action, action_of, action_by, first_object, object_in}
 use Rattle.jdwp_debuggee.specs.Answers.{query_of, content_of, bounded}
 use Rattle.jdwp_debuggee.specs.Effects.{effect, effect_by, does, slots_by, slots_at, answer_frames}
 use Rattle.jdwp_debuggee.specs.Breadth.{keeps_machine}
@@ -77,7 +78,7 @@ frames_action c t h =
 -- nothing changes
 pub frames_after : {S : Type 0} (m : Meaning S) (settings : Settings) (now : Moment S) (c : Command) (t : ℕ) → action_of c ≡ Actions.AskFrames t → (effect m settings now c).after ≡ now
 frames_after m settings now c t e =
-    elim (is_implemented c) as (λ b. (effect_by m settings now c b).after ≡ now) [
+    elim (is_answered settings.profile c) as (λ b. (effect_by m settings now c b).after ≡ now) [
       | true ↦ subst (λ a. (does m settings now c a).after ≡ now) (sym e) refl
       | false ↦ refl
     ]
@@ -93,7 +94,7 @@ suspended-answer m settings now c (Some n) h =
 pub frames_same : {S : Type 0} (m : Meaning S) (settings : Settings) (a b : Moment S) (c : Command) (t : ℕ) → asks_frames_of c t ≡ true → 0 < count_or_zero a.state t → 0 < count_or_zero b.state t → SameFrames m t a.machine b.machine → (effect m settings b c).answer ≡ (effect m settings a c).answer
 frames_same m settings a b c t h p q f =
     let e = frames_action c t h in
-    elim (is_implemented c) as (λ i. (effect_by m settings b c i).answer ≡ (effect_by m settings a c i).answer) [
+    elim (is_answered settings.profile c) as (λ i. (effect_by m settings b c i).answer ≡ (effect_by m settings a c i).answer) [
       | true ↦ subst (λ x. (does m settings b c x).answer ≡ (does m settings a c x).answer) (sym e)
           (suspended-answer m settings b c (count_of b.state t) q
           ∙ (ap (λ w. bounded settings w (m.query b.machine (query_of c))) f.0
@@ -110,7 +111,7 @@ data-suspended m settings now c content (Some (suc n)) h = omega arith
 
 pub frames_suspended : {S : Type 0} (m : Meaning S) (settings : Settings) (now : Moment S) (c : Command) (t : ℕ) (content : List DatumMeaning) → asks_frames_of c t ≡ true → (effect m settings now c).answer ≡ Data content → 0 < count_or_zero now.state t
 frames_suspended m settings now c t content h =
-    elim (is_implemented c) as (λ i. (effect_by m settings now c i).answer ≡ Data content → 0 < count_or_zero now.state t) [
+    elim (is_answered settings.profile c) as (λ i. (effect_by m settings now c i).answer ≡ Data content → 0 < count_or_zero now.state t) [
       | true ↦ λ e. data-suspended m settings now c content (count_of now.state t) (subst (λ x. (does m settings now c x).answer ≡ Data content) (frames_action c t h) e)
       | false ↦ λ e. absurd (cc)
     ]
@@ -127,7 +128,7 @@ written-frames m law settings now t u f values s w false =
 
 effect-by : {S : Type 0} (m : Meaning S) → Rests m → (settings : Settings) (now : Moment S) (c : Command) (t : ℕ) (a : Action) → IsSound m settings now → action_of c ≡ a → writes_by a t ≡ false → (effect m settings now c).after.state.alive ≡ true → SameFrames m t now.machine (effect m settings now c).after.machine
 effect-by m rests settings now c t (Actions.SetSlots u f values) s e w al =
-    elim (is_implemented c) as (λ b. SameFrames m t now.machine (effect_by m settings now c b).after.machine) [
+    elim (is_answered settings.profile c) as (λ b. SameFrames m t now.machine (effect_by m settings now c b).after.machine) [
       | true ↦ subst (λ x. SameFrames m t now.machine (does m settings now c x).after.machine) (sym e) (
           elim (count_of now.state u) as (λ v. SameFrames m t now.machine (slots_by m now u f values v).after.machine) [
             | None ↦ frames_refl m t now.machine now.machine refl
@@ -136,7 +137,7 @@ effect-by m rests settings now c t (Actions.SetSlots u f values) s e w al =
       | false ↦ frames_refl m t now.machine now.machine refl
     ]
 effect-by m rests settings now c t Actions.Exit s e w al =
-    elim (is_implemented c) as (λ b. (effect_by m settings now c b).after.state.alive ≡ true → SameFrames m t now.machine (effect_by m settings now c b).after.machine) [
+    elim (is_answered settings.profile c) as (λ b. (effect_by m settings now c b).after.state.alive ≡ true → SameFrames m t now.machine (effect_by m settings now c b).after.machine) [
       | true ↦ subst (λ x. (does m settings now c x).after.state.alive ≡ true → SameFrames m t now.machine (does m settings now c x).after.machine) (sym e) (λ x. absurd (cc))
       | false ↦ λ x. frames_refl m t now.machine now.machine refl
     ] al

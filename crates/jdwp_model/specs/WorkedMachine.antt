@@ -16,6 +16,7 @@ use Rattle.jdwp_layout.specs.Meanings.{Int, Frame, Located, DatumMeaning, One, M
 use Rattle.jdwp_event.specs.Occurrences.{HappeningMeaning, OccurrenceMeaning, PlaceMeaning, Moved, Entered, Left, RanOut}
 use Rattle.jdwp_machine.specs.declared.query.Query.{Query}
 use Rattle.jdwp_machine.specs.Meanings.{Meaning, has}
+use Rattle.jdwp_machine.specs.declared.profile.Profile.TheVariants.{Standard}
 use Rattle.jdwp_machine.specs.Laws.{AreDistinct, begins_with}
 use Rattle.jdwp_debuggee.specs.Settings.{Settings}
 use Rattle.jdwp_model.specs.Measures.{measured}
@@ -102,7 +103,7 @@ small_opening = record { made = 0; live = 1 ∷ 2 ∷ [] }
 
 -- nobody is suspended as it begins
 abbrev pub settings : Settings
-settings = record { start_all = false; count_limit = 65535; limits = standard_limits }
+settings = record { start_all = false; count_limit = 65535; limits = standard_limits; profile = Standard }
 
 -- as both ends measure, with ids of 8 bytes
 abbrev pub measure : Measure

@@ -1,6 +1,6 @@
 //! The engine that runs both ends by a plan.
 ghost use Rattle.std.specs.Prelude.{◌≡◌, ◌+◌, ◌⊎◌, ◌∷◌, ◌||◌, List, Err, IfErr, IfOk, Ok, OnErr, OnOk, false, is_some, length, min};
-ghost use Rattle.jdwp_script_machine.specs.Machines.{read_machine};
+ghost use Rattle.jdwp_script_machine.specs.Machines.{read_machine_as};
 ghost use Rattle.jdwp_script_machine.specs.ScriptMeaning.{script_meaning};
 ghost use Rattle.jdwp_script_machine.specs.States.{State};
 ghost use Rattle.jdwp_target.specs.Options.{LivesWithin};
@@ -55,16 +55,16 @@ pub fn pair_script<C: Connection, W: Pipe>(
     rounds: u32,
 ) -> Result<PairEnded, ScriptFault>
     ensures paired { IfOk result (λ ended. (machine : State)
-        × (read_machine settings.limits.live script.now ≡ Ok machine)
+        × (read_machine_as settings.profile settings.limits.live script.now ≡ Ok machine)
         × PairsNewBy script_meaning settings defer order machine plan.now rounds ended (W.story out.old)
         (W.story out.new)) }
     ensures failed { IfOk result (λ ended. is_some (C.failed_by connection.new)
         ≡ is_disconnected ended) }
     ensures fault { IfErr result (λ fault. (fault ≡ ScriptFault.NoMemory)
-        ⊎ (read_machine settings.limits.live script.now ≡ Err fault)) }
+        ⊎ (read_machine_as settings.profile settings.limits.live script.now ≡ Err fault)) }
     ensures unprinted { OnErr result (out.new ≡ out.old) }
 {
-    let machine = ScriptMachine::read_with(alloc, script, &settings.limits())?;
+    let machine = ScriptMachine::read_as(alloc, settings.profile(), script, &settings.limits())?;
     let ended = pair_session(
         alloc, machine, settings, defer, order, connection, plan, out, rounds,
     )?;

@@ -27,6 +27,6 @@ pub use losing::{Loss, Side};
 pub use notices::Lines;
 pub use outcome::{Outcome, report_fault, report_outcome};
 pub use recordings::{Recorded, report_connections, session_of};
-pub use values::{decimal, is_all, limits, order};
+pub use values::{decimal, is_all, limits, order, profile};
 pub use version::{VERSION, tell_version};
 pub use words::{Attach, Between, CaptureFile, Pair, Peer, ServeScript, SessionFiles, Words};

@@ -1,10 +1,12 @@
 //! The values of options.
 ghost use Rattle.std.specs.Prelude.{◌≡◌, ◌↔◌, ℕ, List, Some, IfSome, MatchOption, true, false, codes};
 ghost use Rattle.jdwp_debugger.specs.declared.order.Order.TheVariants as orders;
+ghost use Rattle.jdwp_machine.specs.declared.profile.Profile.TheVariants as profiles;
 ghost use Rattle.jdwp_wire.specs.Limits as wire;
 ghost use Rattle.jdwp_program.specs.Values.{AreNumbers, IsDecimal, IsPartedByComma, IsSaidBy};
 
 use jdwp_debugger::Order;
+use jdwp_machine::Profile;
 use jdwp_wire::Limits;
 
 /// Whether a target starts with every thread suspended: `all`, or `none`.
@@ -30,6 +32,20 @@ pub fn order(text: &str) -> Option<Order>
         Some(Order::One)
     } else if text == "apart" {
         Some(Order::Apart)
+    } else {
+        None
+    }
+}
+
+/// The profile of a target: `standard`, or `jdi` for debuggers over the Java Debug Interface.
+pub fn profile(text: &str) -> Option<Profile>
+    ensures standard { (result ≡ Some profiles.Standard) ↔ (text.now ≡ codes "standard") }
+    ensures jdi { (result ≡ Some profiles.Jdi) ↔ (text.now ≡ codes "jdi") }
+{
+    if text == "standard" {
+        Some(Profile::Standard)
+    } else if text == "jdi" {
+        Some(Profile::Jdi)
     } else {
         None
     }

@@ -54,16 +54,17 @@ pub struct SessionFiles<'a> {
     pub to: &'a str,
 }
 
-/// `serve-script MACHINE (--from F --to F | --port N) [--start all|none] [--count-limit N] [--limits L] [--defer] [--turns N]`, or
-/// `serve-script MACHINE --port N --live [--pace MS] [--start all|none] [--count-limit N] [--limits L] [--defer]`.
+/// `serve-script MACHINE (--from F --to F | --port N) [--start all|none] [--count-limit N] [--profile standard|jdi] [--limits L] [--defer]
+/// [--turns N]`, or `serve-script MACHINE --port N --live [--pace MS] [--start all|none] [--count-limit N] [--profile standard|jdi]
+/// [--limits L] [--defer]`.
 #[derive(Clone, Copy, Debug, PartialEq, Eq)]
 pub struct ServeScript<'a> {
     /// The file of the machine's script.
     pub machine: &'a str,
     /// Where the debugger is.
     pub peer: Peer<'a>,
-    /// Whether every thread is suspended when the target starts, the greatest suspend count that a Suspend gives, and the limits of a
-    /// session.
+    /// Whether every thread is suspended when the target starts, the greatest suspend count that a Suspend gives, the limits of a session,
+    /// and the profile.
     pub settings: Settings,
     /// Whether the target defers the replies to commands of the sets ReferenceType and Method.
     pub defer: bool,

@@ -24,7 +24,7 @@ abbrev pub widths : Sizes → Widths
 widths s = record { field = s.field; method = s.method; object = s.object; reference = s.reference; frame = s.frame }
 
 abbrev pub group_part : Group → GroupPart
-group_part g = record { id = g.id.0; name = string_bytes g.name; parent = g.parent.0 }
+group_part g = record { id = g.id.0; name = string_bytes g.name; parent = g.parent.0; class = g.class.0 }
 
 abbrev pub field_part : Field → FieldPart
 field_part f = record { id = f.id.0; name = string_bytes f.name; signature = string_bytes f.signature; modifiers = f.modifiers; value = f.value }
@@ -57,7 +57,7 @@ step_part (step.Start n) = Start n.0
 step_part (step.Again k) = Again k
 
 abbrev pub thread_part : Thread → ThreadPart
-thread_part t = record { id = t.id.0; name = string_bytes t.name; group = t.group.0; steps = map step_part t.steps.items }
+thread_part t = record { id = t.id.0; name = string_bytes t.name; group = t.group.0; steps = map step_part t.steps.items; class = t.class.0 }
 
 abbrev pub module_part : Module → ModulePart
 module_part m = record { id = m.id.0; name = string_bytes m.name }

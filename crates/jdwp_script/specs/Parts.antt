@@ -9,11 +9,12 @@ use Rattle.jdwp_script.specs.declared.step.Literal.{Literal}
 use Rattle.jdwp_script.specs.declared.step.SlotValue.{SlotValue}
 use Rattle.jdwp_script.specs.declared.step.Throw.{Throw}
 
--- a thread group; its parent is 0 where it has none
+-- a thread group; its parent is 0 where it has none, and so is the class that it is an object of where the script names none
 pub record GroupPart : Type 0 where
   pub id : ℕ
   pub name : List ℕ
   pub parent : ℕ
+  pub class : ℕ
 
 -- a field of a class: a static one has a value
 pub record FieldPart : Type 0 where
@@ -84,11 +85,13 @@ pub data StepPart : Type 0 where
   Start : ℕ → StepPart
   Again : ℕ → StepPart
 
+-- a thread; the class that it is an object of is 0 where the script names none
 pub record ThreadPart : Type 0 where
   pub id : ℕ
   pub name : List ℕ
   pub group : ℕ
   pub steps : List StepPart
+  pub class : ℕ
 
 pub record ModulePart : Type 0 where
   pub id : ℕ

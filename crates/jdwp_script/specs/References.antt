@@ -230,6 +230,14 @@ thread_lost k t = (t.id == 0) || (not (k.group t.group) || (steps_lost k [] t.st
 abbrev pub module_lost : ModulePart → Bool
 module_lost m = m.id == 0
 
+-- ---- the classes of groups and threads
+
+abbrev pub group_class_lost : Known → GroupPart → Bool
+group_class_lost k g = is_lost k.class g.class
+
+abbrev pub thread_class_lost : Known → ThreadPart → Bool
+thread_class_lost k t = is_lost k.class t.class
+
 -- ---- all
 
 abbrev pub prepared_by : StepPart → List ℕ
@@ -250,7 +258,8 @@ prepared threads = flat_map (λ t. flat_map prepared_by t.steps) threads
 abbrev pub is_lost_among : Known → ScriptPart → Bool
 is_lost_among k s =
     groups_lost nothing s.groups || (types_lost nothing s.classes || (list_any (class_lost k) s.classes || (list_any (object_lost k) s.objects || (list_any (thread_lost k) s.threads
-    || (list_any module_lost s.modules || (is_twice (started s.threads) || (is_twice (prepared s.threads) || (length (living s.threads) == 0))))))))
+    || (list_any module_lost s.modules || (list_any (group_class_lost k) s.groups || (list_any (thread_class_lost k) s.threads
+    || (is_twice (started s.threads) || (is_twice (prepared s.threads) || (length (living s.threads) == 0))))))))))
 
 abbrev pub has_bad_reference : ScriptPart → Bool
 has_bad_reference s = is_lost_among (known_in s) s

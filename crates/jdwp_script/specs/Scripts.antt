@@ -44,7 +44,8 @@ group m d =
     member_of Id whole d >>= λ id.
     member_of Name text d >>= λ name.
     member_of Parent whole d >>= λ parent.
-    Ok (record { id = id; name = name; parent = parent })
+    member_or 0 Class whole d >>= λ class_id.
+    Ok (record { id = id; name = name; parent = parent; class = class_id })
 
 -- ---- classes
 
@@ -199,7 +200,8 @@ thread m d =
     member_of Name text d >>= λ name.
     member_of Group whole d >>= λ group.
     member_of Steps (list_of step) d >>= λ steps.
-    Ok (record { id = id; name = name; group = group; steps = steps })
+    member_or 0 Class whole d >>= λ class_id.
+    Ok (record { id = id; name = name; group = group; steps = steps; class = class_id })
 
 abbrev pub «module» : Reader ModulePart
 «module» m d = member_of Id whole d >>= λ id. member_of Name text d >>= λ name. Ok (record { id = id; name = name })

@@ -19,7 +19,7 @@ abbrev pub literal_wide : Widths → Literal → Bool
 literal_wide w v = is_object v.tag && is_wide w.object v.bits
 
 abbrev pub group_wide : Widths → GroupPart → Bool
-group_wide w g = is_wide w.object g.id || is_wide w.object g.parent
+group_wide w g = is_wide w.object g.id || (is_wide w.object g.parent || is_wide w.reference g.class)
 
 abbrev pub field_wide : Widths → FieldPart → Bool
 field_wide w f = is_wide w.field f.id || if_there (literal_wide w) f.value
@@ -55,7 +55,7 @@ step_wide w (Start n) = is_wide w.object n
 step_wide w (Again k) = false
 
 abbrev pub thread_wide : Widths → ThreadPart → Bool
-thread_wide w t = is_wide w.object t.id || (is_wide w.object t.group || list_any (step_wide w) t.steps)
+thread_wide w t = is_wide w.object t.id || (is_wide w.object t.group || (list_any (step_wide w) t.steps || is_wide w.reference t.class))
 
 abbrev pub module_wide : Widths → ModulePart → Bool
 module_wide w m = is_wide w.object m.id

@@ -106,6 +106,7 @@ impl Part for Group {
             id: ObjectId(member(alloc, value, Member::Id)?),
             name: member(alloc, value, Member::Name)?,
             parent: ObjectId(member(alloc, value, Member::Parent)?),
+            class: ReferenceTypeId(member_or(alloc, 0, value, Member::Class)?),
         })
     }
 }
@@ -276,6 +277,7 @@ impl Part for Thread {
             name: member(alloc, value, Member::Name)?,
             group: ObjectId(member(alloc, value, Member::Group)?),
             steps: member(alloc, value, Member::Steps)?,
+            class: ReferenceTypeId(member_or(alloc, 0, value, Member::Class)?),
         })
     }
 }

@@ -41,7 +41,28 @@ pub(crate) fn reference_detail(alloc: Global, script: &Script) -> Result<Detail,
             path: root.to(Member::Modules, place),
         });
     }
+    if let Some(found) = class_of_detail(&known, script) {
+        return Ok(found);
+    }
     Ok(Detail::of(start_cause(alloc, &script.threads)?))
+}
+
+/// The first group, or else the first thread, of an unknown class.
+fn class_of_detail(known: &KnownIds, script: &Script) -> Option<Detail> {
+    let root = Path::ROOT;
+    if let Some(place) = first_bad(known, &script.groups) {
+        return Some(Detail {
+            cause: Cause::Unknown(IdKind::Class, script.groups[place].class.0),
+            path: root.to(Member::Groups, place),
+        });
+    }
+    match first_bad(known, &script.threads) {
+        Some(place) => Some(Detail {
+            cause: Cause::Unknown(IdKind::Class, script.threads[place].class.0),
+            path: root.to(Member::Threads, place),
+        }),
+        None => None,
+    }
 }
 
 /// The first group of id 0, or with a parent that does not stand before it.

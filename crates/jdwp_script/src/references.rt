@@ -7,10 +7,10 @@ ghost use Rattle.jdwp_script.specs.declared.step.Place.{Place};
 ghost use Rattle.jdwp_script.specs.declared.step.SlotValue.{SlotValue};
 ghost use Rattle.jdwp_script.specs.Literals.{fits_tag};
 ghost use Rattle.jdwp_script.specs.Limits.{if_there};
-ghost use Rattle.jdwp_script.specs.Parts.{FieldPart, MethodPart, ClassPart, ElementsPart, ObjectPart, CallPart, ModulePart};
+ghost use Rattle.jdwp_script.specs.Parts.{GroupPart, ThreadPart, FieldPart, MethodPart, ClassPart, ElementsPart, ObjectPart, CallPart, ModulePart};
 ghost use Rattle.jdwp_script.specs.Meanings.{group_part, field_part, method_part, class_part, elements_part, object_part, call_part, step_part, thread_part, module_part, script_part};
 ghost use Rattle.jdwp_script.specs.IdSets.{has, known_ids};
-ghost use Rattle.jdwp_script.specs.References.{nothing, is_lost, literal_lost, groups_lost, types_lost, field_lost, lines_lost, method_lost, class_lost, field_value_lost, same_field, field_twice, elements_lost, object_lost, is_past, slot_value_lost, same_slot, slot_twice, call_lost, place_lost, step_lost, frames_left, steps_lost, thread_lost, module_lost, is_lost_among, has_bad_reference};
+ghost use Rattle.jdwp_script.specs.References.{nothing, is_lost, literal_lost, groups_lost, types_lost, field_lost, lines_lost, method_lost, class_lost, field_value_lost, same_field, field_twice, elements_lost, object_lost, is_past, slot_value_lost, same_slot, slot_twice, call_lost, place_lost, step_lost, frames_left, steps_lost, thread_lost, module_lost, group_class_lost, thread_class_lost, is_lost_among, has_bad_reference};
 
 use crate::gather::Gather;
 use crate::ids::{PreparedIds, StartedIds};
@@ -420,6 +420,32 @@ impl Judge<Module> for KnownIds {
     }
 }
 
+/// Finds groups of an unknown class.
+impl Judge<Group> for KnownIds {
+    ghost Meaning = { GroupPart };
+
+    ghost meaning = { group_part };
+
+    ghost judges = { λ k. group_class_lost (known_ids k) };
+
+    fn is_bad(&self, group: &Group) -> bool {
+        is_lost(&self.classes, group.class.0)
+    }
+}
+
+/// Finds threads of an unknown class.
+impl Judge<Thread> for KnownIds {
+    ghost Meaning = { ThreadPart };
+
+    ghost meaning = { thread_part };
+
+    ghost judges = { λ k. thread_class_lost (known_ids k) };
+
+    fn is_bad(&self, thread: &Thread) -> bool {
+        is_lost(&self.classes, thread.class.0)
+    }
+}
+
 /// Whether something stands where it may not, these ids being known.
 fn is_lost_among(alloc: Global, known: &KnownIds, script: &Script) -> Result<bool, NoMemory>
     ensures { IfOk result (λ lost. lost ≡ is_lost_among (known_ids known.now)
@@ -432,6 +458,8 @@ fn is_lost_among(alloc: Global, known: &KnownIds, script: &Script) -> Result<boo
             || known.has_bad(&script.objects)
             || threads_lost(alloc, known, &script.threads)?
             || known.has_bad(&script.modules)
+            || known.has_bad(&script.groups)
+            || known.has_bad(&script.threads)
             || StartedIds.has_twice(alloc, &script.threads)?
             || PreparedIds.has_twice(alloc, &script.threads)?
             || living(alloc, &script.threads)? == 0,

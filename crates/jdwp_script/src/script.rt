@@ -33,6 +33,8 @@ pub struct Group {
     pub name: String,
     /// 0 where the group has none.
     pub parent: ObjectId,
+    /// The class that it is an object of, 0 where the text names none.
+    pub class: ReferenceTypeId,
 }
 
 /// A class, an interface or an array type.
@@ -132,6 +134,8 @@ pub struct Thread {
     pub name: String,
     pub group: ObjectId,
     pub steps: Vec<Step>,
+    /// The class that it is an object of, 0 where the text names none.
+    pub class: ReferenceTypeId,
 }
 
 /// A module.

@@ -54,7 +54,9 @@ impl Judge<Group> for TooWide {
     ghost judges = { λ wide. group_wide wide.sizes };
 
     fn is_bad(&self, group: &Group) -> bool {
-        is_wide(group.id.0, self.sizes.object()) || is_wide(group.parent.0, self.sizes.object())
+        is_wide(group.id.0, self.sizes.object())
+            || is_wide(group.parent.0, self.sizes.object())
+            || self.is_bad(&group.class)
     }
 }
 
@@ -243,6 +245,7 @@ impl Judge<Thread> for TooWide {
         is_wide(thread.id.0, self.sizes.object())
             || is_wide(thread.group.0, self.sizes.object())
             || self.has_bad(&thread.steps)
+            || self.is_bad(&thread.class)
     }
 }
 

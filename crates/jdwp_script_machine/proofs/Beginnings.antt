@@ -4,7 +4,7 @@ use Rattle.std.proofs.lemmas.Bool.{eqb-true, eq-eqb, false≢true}
 use Rattle.std.specs.List.{list_any, flat_map, AllByRecursion, IsDistinct}
 use Rattle.jdwp_script.specs.Parts.{GroupPart, ClassPart, ObjectPart, StepPart, Call, Go, Return, Throwing, Prepare, Start, Again, ThreadPart, ScriptPart}
 use Rattle.jdwp_script.specs.Limits.{over, is_long, is_in, started_by, started, group_passes, class_passes, object_passes, step_passes, is_deep, thread_passes, passes_limit}
-use Rattle.jdwp_script.specs.References.{nothing, Known, known_in, groups_lost, types_lost, class_lost, object_lost, step_lost, frames_left, steps_lost, loop_lost, thread_lost, module_lost, has_bad_reference}
+use Rattle.jdwp_script.specs.References.{nothing, Known, known_in, groups_lost, types_lost, class_lost, object_lost, step_lost, frames_left, steps_lost, loop_lost, thread_lost, module_lost, group_class_lost, thread_class_lost, has_bad_reference}
 use Rattle.jdwp_script.specs.Twice.{shared_ids, class_ids, is_twice, has_id_twice}
 use Rattle.jdwp_script.specs.Faults.{first_fault}
 use Rattle.jdwp_value.specs.Rising.{rising}
@@ -217,7 +217,9 @@ faultless_is live s h =
     let objects = neither (list_any (object_lost (known_in s)) s.objects) _ classes.1 in
     let threads = neither (list_any (thread_lost (known_in s)) s.threads) _ objects.1 in
     let modules = neither (list_any module_lost s.modules) _ threads.1 in
-    let once = neither (is_twice (started s.threads)) _ modules.1 in
+    let group_classes = neither (list_any (group_class_lost (known_in s)) s.groups) _ modules.1 in
+    let thread_classes = neither (list_any (thread_class_lost (known_in s)) s.threads) _ group_classes.1 in
+    let once = neither (is_twice (started s.threads)) _ thread_classes.1 in
     record {
       classes = classes_apart s none.1;
       threads = rw (← ids_at_opening (arranged s) (arranged s).threads) (opening_sound live s none.0 none.1 none.2).distinct;

@@ -7,13 +7,14 @@ use Rattle.jdwp_wire.specs.declared.error_code.ErrorCode.{ErrorCode}
 use Rattle.jdwp_value.specs.declared.id.ObjectId.{ObjectId}
 use Rattle.jdwp_value.specs.declared.value.Value.{Value}
 use Rattle.jdwp_machine.specs.Meanings.{numbers}
+use Rattle.jdwp_machine.specs.declared.profile.Profile.{Profile}
 use Rattle.jdwp_script.specs.declared.fault.ScriptFault.{ScriptFault}
 use Rattle.jdwp_script.specs.declared.fault.ScriptFault.TheVariants.{NotJson, Missing, IdTwice, IdTooWide, BadReference, OverLimit, NoMemory}
 use Rattle.jdwp_script.specs.Parts.{StepPart, ScriptPart}
 use Rattle.jdwp_script.specs.Reading.{◌>>=◌, Fails}
 use Rattle.jdwp_script.specs.TooWide.{is_no_width}
 use Rattle.jdwp_script.specs.Faults.{first_fault}
-use Rattle.jdwp_script_machine.specs.States.{ThreadNow, State, thread_at, living, opening}
+use Rattle.jdwp_script_machine.specs.States.{ThreadNow, State, thread_at, living, opening_as}
 use Rattle.jdwp_script_machine.specs.Steps.{next_step, place_after, stepped_by, stepped_of, stepped}
 use Rattle.jdwp_script_machine.specs.Sound.{IsSound}
 use Rattle.jdwp_script_machine.specs.Machines.{IsMachine}
@@ -26,8 +27,11 @@ use Rattle.jdwp_script_machine.proofs.Openings.{faultless}
 
 -- ---- a script with no fault
 
-pub faultless_sound : (live : ℕ) (s : ScriptPart) → first_fault live s ≡ None → IsSound (opening s)
-faultless_sound live s h = let none = faultless live s h in opening_sound live s none.0 none.1 none.2
+pub faultless_sound : (profile : Profile) (live : ℕ) (s : ScriptPart) → first_fault live s ≡ None → IsSound (opening_as profile s)
+faultless_sound profile live s h =
+    let none = faultless live s h in
+    let sound = opening_sound live s none.0 none.1 none.2 in
+    record { script = sound.script; threads = sound.threads; each_thread = sound.each_thread; distinct = sound.distinct }
 
 is_width : (n : ℕ) → is_no_width n ≡ false → IsWidth n
 is_width n h =

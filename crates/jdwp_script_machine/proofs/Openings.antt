@@ -9,7 +9,7 @@ use Rattle.jdwp_script.specs.Parts.{StepPart, Call, Go, Return, Throwing, Prepar
 use Rattle.jdwp_script.specs.Limits.{over, is_long, is_in, started_by, started, group_passes, class_passes, object_passes, thread_passes, module_passes, passes_limit}
 use Rattle.jdwp_script.specs.Limits as limits
 use Rattle.jdwp_script.specs.Faults.{first_fault}
-use Rattle.jdwp_script.specs.References.{nothing, known_in, groups_lost, types_lost, class_lost, object_lost, thread_lost, module_lost, prepared, has_bad_reference}
+use Rattle.jdwp_script.specs.References.{nothing, known_in, groups_lost, types_lost, class_lost, object_lost, thread_lost, module_lost, group_class_lost, thread_class_lost, prepared, has_bad_reference}
 use Rattle.jdwp_script.specs.Twice.{is_twice, has_id_twice}
 use Rattle.jdwp_script.specs.TooWide.{has_wide_id}
 use Rattle.jdwp_value.specs.Rising.{put_in, rising}
@@ -140,7 +140,9 @@ some_live s h =
     let objects = neither (list_any (object_lost (known_in s)) s.objects) _ classes.1 in
     let threads = neither (list_any (thread_lost (known_in s)) s.threads) _ objects.1 in
     let modules = neither (list_any module_lost s.modules) _ threads.1 in
-    let once = neither (is_twice (started s.threads)) _ modules.1 in
+    let group_classes = neither (list_any (group_class_lost (known_in s)) s.groups) _ modules.1 in
+    let thread_classes = neither (list_any (thread_class_lost (known_in s)) s.threads) _ group_classes.1 in
+    let once = neither (is_twice (started s.threads)) _ thread_classes.1 in
     let ready = neither (is_twice (prepared s.threads)) _ once.1 in
     let none = eqb-false (length (limits.living s.threads)) 0 ready.1 in
     omega arith

@@ -4,7 +4,6 @@ use Rattle.jdwp_wire.specs.ErrorCodes.{NOT_IMPLEMENTED}
 use Rattle.jdwp_layout.specs.declared.answer.Answer.{Answer}
 use Rattle.jdwp_layout.specs.declared.answer.Answer.TheVariants.{Error}
 use Rattle.jdwp_layout.specs.CommandNumbers.{VIRTUAL_MACHINE, REFERENCE_TYPE, CLASS_TYPE, METHOD, OBJECT_REFERENCE, STRING_REFERENCE, THREAD_REFERENCE, THREAD_GROUP_REFERENCE, ARRAY_REFERENCE, EVENT_REQUEST, STACK_FRAME, MODULE_REFERENCE, SET_REQUEST}
-use Rattle.jdwp_machine.specs.declared.query.Query.{Query}
 use Rattle.jdwp_script_machine.specs.States.{State}
 use Rattle.jdwp_script_machine.specs.Requests.{Asks}
 use Rattle.jdwp_script_machine.specs.ClassAnswers.{virtual_machine_answer, reference_type_answer, class_type_answer, method_answer}
@@ -27,6 +26,3 @@ answer_at s set number content =
     if set == STACK_FRAME then stack_frame_answer_by s.script (frames_at s) number content else (
     if set == MODULE_REFERENCE then module_reference_answer s number content else
     Error NOT_IMPLEMENTED)))))))))))
-
-abbrev pub answer : State → Query → Answer
-answer s q = answer_at s q.set q.number q.content

@@ -24,7 +24,7 @@ counted_fits refusal xs few all = rw (few, none_first refusal xs all) refl
 pub short_fits : {X : Type 0} (refusal : X → Option DataFault) (xs : List X) → IsShort xs → AllByRecursion (λ (x : X). refusal x ≡ None) xs → list_refusal refusal xs ≡ None
 short_fits refusal xs few all = counted_fits refusal xs (short_counts (length xs) few) all
 
-each_fits : {A X : Type 0} (P : A → Type 0) (refusal : X → Option DataFault) (entry : A → X) → ((a : A) → P a → refusal (entry a) ≡ None) → (xs : List A) → AllByRecursion P xs → AllByRecursion (λ (x : X). refusal x ≡ None) (map entry xs)
+pub each_fits : {A X : Type 0} (P : A → Type 0) (refusal : X → Option DataFault) (entry : A → X) → ((a : A) → P a → refusal (entry a) ≡ None) → (xs : List A) → AllByRecursion P xs → AllByRecursion (λ (x : X). refusal x ≡ None) (map entry xs)
 each_fits P refusal entry fits [] all = tt
 each_fits P refusal entry fits (x ∷ xs) all = (fits x all.0, each_fits P refusal entry fits xs all.1)
 

@@ -1,6 +1,6 @@
 -- Proofs that what is answered of a thread's frames stays where other threads step, end or are written, and but for the
 -- values of slots where its own slots are written.
-use Rattle.std.proofs.Common.{◌≡◌, ◌≢◌, ℕ, zero, suc, ℤ, pos, negsuc, ◌==◌, ◌||◌, ◌&&◌, Bool, true, false, if◌then◌else◌, List, [], ◌∷◌, map, take, drop, length, refl, ◌∙◌, ap, Option, Some, None, option_map, ◌⊎◌, inl, inr}
+use Rattle.std.proofs.Common.{◌≡◌, ◌≢◌, ℕ, zero, suc, ℤ, pos, negsuc, ◌==◌, ◌||◌, ◌&&◌, Bool, true, false, if◌then◌else◌, List, [], ◌∷◌, map, take, drop, length, refl, sym, ◌∙◌, ap, Option, Some, None, option_map, ◌⊎◌, inl, inr}
 use Rattle.std.proofs.lemmas.Bool.{eqb-true, false≢true}
 use Rattle.jdwp_wire.specs.declared.error_code.ErrorCode.{ErrorCode}
 use Rattle.jdwp_value.specs.declared.value.Value.{Value}
@@ -15,7 +15,11 @@ use Rattle.jdwp_script_machine.specs.Steps.{next_step, place_after, after_step, 
 use Rattle.jdwp_script_machine.specs.SlotWrites.{frame_in, frame_written, thread_written, write_refusal, written_by, written}
 use Rattle.jdwp_script_machine.specs.Requests.{Asks, found_or, of_frames, of_frame_in, part_from, part_of}
 use Rattle.jdwp_script_machine.specs.ThreadAnswers.{frames_at, frame_entry, frames_listed, frames_answer, frame_count_answer, slots_answer, this_answer}
-use Rattle.jdwp_script_machine.specs.Answers.{answer_at, answer}
+use Rattle.jdwp_machine.specs.declared.profile.Profile.{Profile}
+use Rattle.jdwp_machine.specs.declared.profile.Profile.TheVariants.{Standard, Jdi}
+use Rattle.jdwp_script_machine.specs.Answers.{answer_at}
+use Rattle.jdwp_script_machine.specs.JdiAnswers.{jdi_answer_at}
+use Rattle.jdwp_script_machine.specs.ProfileAnswers.{answer_in, answer}
 use Rattle.jdwp_script_machine.specs.StateLaws.{either, with_change, found_other, found_same}
 
 -- ---- the frames of another thread stay
@@ -80,6 +84,33 @@ or_either : (a b : Bool) → (a || b) ≡ true → (a ≡ true) ⊎ (b ≡ true)
 or_either true b h = inl refl
 or_either false b h = inr h
 
+-- ---- questions about frames are answered alike in each profile
+
+places_in_jdi : (s : State) (u set number : ℕ) (content : List DatumMeaning)
+    → (begins_with content u && (is_command FRAMES set number || (is_command FRAME_COUNT set number || is_command THIS_OBJECT set number))) ≡ true → jdi_answer_at s set number content ≡ answer_at s set number content
+places_in_jdi s u set number content h =
+    let asked = which_place (begins_with content u) (is_command FRAMES set number) (is_command FRAME_COUNT set number) (is_command THIS_OBJECT set number) h in
+    elim asked.1 [
+      | inl k ↦ let is = command_is set number FRAMES k in rw (is.0, is.1) refl
+      | inr (inl k) ↦ let is = command_is set number FRAME_COUNT k in rw (is.0, is.1) refl
+      | inr (inr k) ↦ let is = command_is set number THIS_OBJECT k in rw (is.0, is.1) refl
+    ]
+
+places_in : (p : Profile) (s : State) (u set number : ℕ) (content : List DatumMeaning)
+    → (begins_with content u && (is_command FRAMES set number || (is_command FRAME_COUNT set number || is_command THIS_OBJECT set number))) ≡ true → answer_in p s set number content ≡ answer_at s set number content
+places_in Standard s u set number content h = refl
+places_in Jdi s u set number content h = places_in_jdi s u set number content h
+
+slots_in_jdi : (s : State) (u set number : ℕ) (content : List DatumMeaning) → (begins_with content u && is_command GET_SLOTS set number) ≡ true → jdi_answer_at s set number content ≡ answer_at s set number content
+slots_in_jdi s u set number content h =
+    let asked = and_both (begins_with content u) (is_command GET_SLOTS set number) h in
+    let is = command_is set number GET_SLOTS asked.1 in
+    rw (is.0, is.1) refl
+
+pub slots_in : (p : Profile) (s : State) (u set number : ℕ) (content : List DatumMeaning) → (begins_with content u && is_command GET_SLOTS set number) ≡ true → answer_in p s set number content ≡ answer_at s set number content
+slots_in Standard s u set number content h = refl
+slots_in Jdi s u set number content h = slots_in_jdi s u set number content h
+
 -- ---- an answer that reads the frames of the first thread alone
 
 same_frames : (f g : ℕ → Option (List FrameNow)) (answer : List FrameNow → Asks) (u : ℕ) → f u ≡ g u → (content : List DatumMeaning) → begins_with content u ≡ true → of_frames f answer content ≡ of_frames g answer content
@@ -105,8 +136,8 @@ slots_same s r u frames set number content h =
 
 pub frames_same : (s r : State) (u : ℕ) (q : Query) → r.script ≡ s.script → frames_at r u ≡ frames_at s u → asks_frames q u ≡ true → answer r q ≡ answer s q
 frames_same s r u q script frames h = elim (or_either (asks_places q u) (asks_slots q u) h) [
-  | inl k ↦ places_same s r u script frames q.set q.number q.content k
-  | inr k ↦ slots_same s r u frames q.set q.number q.content k
+  | inl k ↦ places_in r.profile r u q.set q.number q.content k ∙ (places_same s r u script frames q.set q.number q.content k ∙ sym (places_in s.profile s u q.set q.number q.content k))
+  | inr k ↦ slots_in r.profile r u q.set q.number q.content k ∙ (slots_same s r u frames q.set q.number q.content k ∙ sym (slots_in s.profile s u q.set q.number q.content k))
 ]
 
 -- ---- written slots of the thread itself
@@ -242,4 +273,6 @@ places_alike s r u script alike set number content h =
 
 pub places_written : (s : State) (t f : ℕ) (values : List (ℤ × Value)) (q : Query) → asks_places q t ≡ true → answer (written s t f values) q ≡ answer s q
 places_written s t f values q h =
-    places_alike s (written s t f values) t (written_script s t f values) (written_by_alike s t f values (write_refusal s t f values)) q.set q.number q.content h
+    let r = written s t f values in
+    places_in r.profile r t q.set q.number q.content h
+    ∙ (places_alike s r t (written_script s t f values) (written_by_alike s t f values (write_refusal s t f values)) q.set q.number q.content h ∙ sym (places_in s.profile s t q.set q.number q.content h))

@@ -21,6 +21,9 @@ pub mod Lives
 pub mod ThreadAnswers
 pub mod SlotQuestions
 pub mod Answers
+pub mod JdiAnswers
+pub mod JdiQuestions
+pub mod ProfileAnswers
 pub mod Sound
 pub mod StateLaws
 pub mod LiveLaws
@@ -32,6 +35,7 @@ pub mod ClassAnswerLaws
 pub mod ObjectAnswerLaws
 pub mod ModuleAnswerLaws
 pub mod ThreadAnswerLaws
+pub mod JdiAnswerLaws
 pub mod FrameLaws
 pub mod SlotLaws
 pub mod HappeningLaws

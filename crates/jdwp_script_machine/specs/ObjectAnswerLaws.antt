@@ -31,7 +31,7 @@ use Rattle.jdwp_script_machine.specs.ClassAnswerLaws.{there, no_command, groups_
 
 -- ---- ObjectReference
 
-type_good : (s : State) (c : ClassPart) → ClassIsSound s.script.sizes c → Good s OBJECT_TYPE (type_answer c)
+pub type_good : (s : State) (c : ClassPart) → ClassIsSound s.script.sizes c → Good s OBJECT_TYPE (type_answer c)
 unfolding Good
 type_good s c h = rw h.id refl
 

@@ -164,8 +164,8 @@ object_sound w o limits wide =
 
 group_sound : (w : Widths) (g : GroupPart) → is_long g.name ≡ false → group_wide w g ≡ false → GroupIsSound w g
 group_sound w g limits wide =
-    let i = neither (is_wide w.object g.id) (is_wide w.object g.parent) wide in
-    record { id = id_fits w.object g.id i.0; name = short TEXT_LIMIT g.name (omega arith) limits; parent = id_fits w.object g.parent i.1 }
+    let i = each_false (is_wide w.object g.id) (is_wide w.object g.parent ∷ is_wide w.reference g.class ∷ []) wide in
+    record { id = id_fits w.object g.id i.0; name = short TEXT_LIMIT g.name (omega arith) limits; parent = id_fits w.object g.parent i.1.0 }
 
 step_sound : (w : Widths) (step : StepPart) → step_wide w step ≡ false → StepIsSound w step
 step_sound w (Call c) wide =
@@ -185,7 +185,7 @@ step_sound w (Again k) wide = tt
 thread_sound : (w : Widths) (t : ThreadPart) → thread_passes t ≡ false → thread_wide w t ≡ false → ThreadIsSound w t
 thread_sound w t limits wide =
     let l = each_false (is_long t.name) (over 65_536 t.steps ∷ list_any step_passes t.steps ∷ is_deep 0 t.steps ∷ []) limits in
-    let i = each_false (is_wide w.object t.id) (is_wide w.object t.group ∷ list_any (step_wide w) t.steps ∷ []) wide in
+    let i = each_false (is_wide w.object t.id) (is_wide w.object t.group ∷ list_any (step_wide w) t.steps ∷ is_wide w.reference t.class ∷ []) wide in
     record {
       id = id_fits w.object t.id i.0;
       name = short TEXT_LIMIT t.name (omega arith) l.0;

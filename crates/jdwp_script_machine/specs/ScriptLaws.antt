@@ -20,7 +20,11 @@ use Rattle.jdwp_script_machine.specs.Steps.{next, stepped, gone, ended}
 use Rattle.jdwp_script_machine.specs.SlotWrites.{has_slot, slot_value, found_suits, may_hold, frame_refusal, frame_in, thread_refusal, thread_written, write_refusal, answer_of_refusal, write_answer, written_by, written}
 use Rattle.jdwp_script_machine.specs.Requests.{found_or}
 use Rattle.jdwp_script_machine.specs.ThreadAnswers.{index_answer, location_in_class, location_answer}
-use Rattle.jdwp_script_machine.specs.Answers.{answer_at, answer}
+use Rattle.jdwp_machine.specs.declared.profile.Profile.{Profile}
+use Rattle.jdwp_machine.specs.declared.profile.Profile.TheVariants.{Standard, Jdi}
+use Rattle.jdwp_script_machine.specs.Answers.{answer_at}
+use Rattle.jdwp_script_machine.specs.ProfileAnswers.{answer_in, answer}
+use Rattle.jdwp_script_machine.specs.JdiAnswerLaws.{jdi_good}
 use Rattle.jdwp_script_machine.specs.Sound.{Fits, IsSound}
 use Rattle.jdwp_script_machine.specs.ScriptMeaning.{script_meaning}
 use Rattle.jdwp_script_machine.specs.StateLaws.{in_life, with_change, has_living, living_begun, change_within, change_out, living_distinct}
@@ -52,6 +56,10 @@ answer_good s sound set number content =
     at_set s set STACK_FRAME number _ _ (stack_frames_answered s sound number content) (
     at_set s set MODULE_REFERENCE number _ _ (modules_answered s sound number content) (
     no_command s (command_at set number)))))))))))))
+
+answer_in_good : (p : Profile) (s : State) → IsSound s → (set number : ℕ) (content : List DatumMeaning) → Good s (command_at set number) (answer_in p s set number content)
+answer_in_good Standard s sound set number content = answer_good s sound set number content
+answer_in_good Jdi s sound set number content = jdi_good s sound set number content (answer_good s sound set number content)
 
 -- ---- refused writes
 
@@ -126,11 +134,13 @@ location_told : (script : ScriptPart) (p : Location) → IsLocationAnswer (locat
 location_told script Null = inr (inr refl)
 location_told script (At tag class method index) = class_told method.0 index (class_in script class.0)
 
-set_told : (s : State) (set number : ℕ) (content : List DatumMeaning) (p : Location) → is_command SET_REQUEST set number ≡ true → content ≡ breakpoint_at p → IsLocationAnswer (answer_at s set number content)
-set_told s set number content p command is = let numbers = command_is set number SET_REQUEST command in rw (numbers.0, numbers.1, is) (location_told s.script p)
+set_told : (profile : Profile) (s : State) (set number : ℕ) (content : List DatumMeaning) (p : Location) → is_command SET_REQUEST set number ≡ true → content ≡ breakpoint_at p → IsLocationAnswer (answer_in profile s set number content)
+set_told Standard s set number content p command is = let numbers = command_is set number SET_REQUEST command in rw (numbers.0, numbers.1, is) (location_told s.script p)
+set_told Jdi s set number content p command is = let numbers = command_is set number SET_REQUEST command in rw (numbers.0, numbers.1, is) (location_told s.script p)
 
-null_told : (s : State) (set number : ℕ) (content : List DatumMeaning) → is_command SET_REQUEST set number ≡ true → content ≡ breakpoint_at Null → answer_at s set number content ≡ Error INVALID_LOCATION
-null_told s set number content command is = let numbers = command_is set number SET_REQUEST command in rw (numbers.0, numbers.1, is) refl
+null_told : (profile : Profile) (s : State) (set number : ℕ) (content : List DatumMeaning) → is_command SET_REQUEST set number ≡ true → content ≡ breakpoint_at Null → answer_in profile s set number content ≡ Error INVALID_LOCATION
+null_told Standard s set number content command is = let numbers = command_is set number SET_REQUEST command in rw (numbers.0, numbers.1, is) refl
+null_told Jdi s set number content command is = let numbers = command_is set number SET_REQUEST command in rw (numbers.0, numbers.1, is) refl
 
 -- ---- all together
 
@@ -160,12 +170,12 @@ script_lawful =
       frames_written = λ s t f u values q sound ne h. frames_same s (written s t f values) u q (written_script s t f values) (written_frames s t f u values ne) h;
       places_written = λ s t f values q sound h. places_written s t f values q h;
       values_written = λ s t f values q sound h. values_written s t f values q h;
-      answers = λ s q sound. from_good s (command_at q.set q.number) (answer s q) (answer_good s sound q.set q.number q.content);
+      answers = λ s q sound. from_good s (command_at q.set q.number) (answer s q) (answer_in_good s.profile s sound q.set q.number q.content);
       write_answers = λ s t f values sound. from_good s SET_SLOTS (write_answer s t f values) (write_by s (write_refusal s t f values) (thread_refused s.script f values (thread_at s t)));
       short_signature = λ s t may. (next_good s may.0 t).short;
       live_fits = λ s t sound h. live_fits s sound t h;
       thread_fits = λ s t may. next_thread_fits s may.0 t (live_fits s may.0 t may.1);
       occurrence_fits = λ s t may. (next_good s may.0 t).fits;
-      location_answers = λ s q p sound command is. set_told s q.set q.number q.content p command is;
-      null_location = λ s q sound command is. null_told s q.set q.number q.content command is;
+      location_answers = λ s q p sound command is. set_told s.profile s q.set q.number q.content p command is;
+      null_location = λ s q sound command is. null_told s.profile s q.set q.number q.content command is;
     }

@@ -3,7 +3,7 @@ use Rattle.jdwp_machine.specs.Meanings.{Meaning}
 use Rattle.jdwp_script_machine.specs.States.{State, living, begun}
 use Rattle.jdwp_script_machine.specs.Steps.{next, stepped, ended}
 use Rattle.jdwp_script_machine.specs.SlotWrites.{write_answer, written}
-use Rattle.jdwp_script_machine.specs.Answers.{answer}
+use Rattle.jdwp_script_machine.specs.ProfileAnswers.{answer}
 use Rattle.jdwp_script_machine.specs.Sound.{IsSound}
 
 abbrev pub script_meaning : Meaning State

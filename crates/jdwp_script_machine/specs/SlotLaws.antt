@@ -24,9 +24,10 @@ use Rattle.jdwp_script_machine.specs.States.{SlotNow, FrameNow, ThreadNow, State
 use Rattle.jdwp_script_machine.specs.SlotWrites.{slot_value, has_slot, suits, found_suits, may_hold, slots_refusal, frame_refusal, frame_in, thread_refusal, slot_written, slots_written, frame_written, thread_written, write_refusal, written_by, written}
 use Rattle.jdwp_script_machine.specs.Requests.{found_or, of_frames, of_frame_in, of_entries}
 use Rattle.jdwp_script_machine.specs.ThreadAnswers.{frames_at, entry_has_slot, byte_suits, entry_suits, with_entry, entry_slot, slot_entries, slots_asked, slots_answer}
-use Rattle.jdwp_script_machine.specs.Answers.{answer_at, answer}
+use Rattle.jdwp_script_machine.specs.Answers.{answer_at}
+use Rattle.jdwp_script_machine.specs.ProfileAnswers.{answer}
 use Rattle.jdwp_script_machine.specs.StateLaws.{either, found_other}
-use Rattle.jdwp_script_machine.specs.FrameLaws.{and_both, command_is, found_changed}
+use Rattle.jdwp_script_machine.specs.FrameLaws.{and_both, command_is, slots_in, found_changed}
 
 -- ---- tags
 
@@ -272,4 +273,6 @@ keeps_at s r t set number content keeps h =
 
 pub values_written : (s : State) (t f : ℕ) (values : List (ℤ × Value)) (q : Query) → asks_slots q t ≡ true → KeepsValues (answer s q) (answer (written s t f values) q)
 values_written s t f values q h =
-    keeps_at s (written s t f values) t q.set q.number q.content (λ begins. asked_of s t f values (write_refusal s t f values) refl q.content begins) h
+    let r = written s t f values in
+    let kept = keeps_at s r t q.set q.number q.content (λ begins. asked_of s t f values (write_refusal s t f values) refl q.content begins) h in
+    rw (slots_in s.profile s t q.set q.number q.content h, slots_in r.profile r t q.set q.number q.content h) kept

@@ -28,4 +28,4 @@ abbrev pub class_now : ClassState → ClassNow
 class_now c = record { id = c.id.0; is_prepared = c.is_prepared }
 
 abbrev pub state_now : MachineState → State
-state_now s = record { script = script_part s.script; threads = map thread_now s.threads.items; classes = map class_now s.classes.items }
+state_now s = record { script = script_part s.script; threads = map thread_now s.threads.items; classes = map class_now s.classes.items; profile = s.profile }

@@ -4,6 +4,8 @@ use Rattle.std.specs.List.{list_any}
 use Rattle.jdwp_value.specs.declared.value.Value.{Value}
 use Rattle.jdwp_script.specs.Parts.{GroupPart, FieldPart, MethodPart, ClassPart, ObjectPart, StepPart, Call, Go, Return, Throwing, Prepare, Start, Again, ThreadPart, ModulePart, ScriptPart}
 use Rattle.jdwp_value.specs.Rising.{rising}
+use Rattle.jdwp_machine.specs.declared.profile.Profile.{Profile}
+use Rattle.jdwp_machine.specs.declared.profile.Profile.TheVariants.{Standard}
 use Rattle.jdwp_script_machine.specs.LookUps.{with_id}
 
 -- what a slot of a frame holds
@@ -38,12 +40,13 @@ pub record ClassNow : Type 0 where
   pub id : ℕ
   pub is_prepared : Bool
 
--- A machine: its script, which never changes and whose lists stand by rising id, and its threads and classes as they are
--- now, in the script's order.
+-- A machine: its script, which never changes and whose lists stand by rising id, its threads and classes as they are
+-- now, in the script's order, and its profile, which never changes.
 pub record State : Type 0 where
   pub script : ScriptPart
   pub threads : List ThreadNow
   pub classes : List ClassNow
+  pub profile : Profile
 
 -- ---- threads
 
@@ -127,8 +130,11 @@ abbrev pub opening_class : ScriptPart → ClassPart → ClassNow
 opening_class script c = record { id = c.id; is_prepared = not (some_step (prepares_class c.id) script) }
 
 abbrev pub opening_of : ScriptPart → State
-opening_of script = record { script = script; threads = map (opening_thread script) script.threads; classes = map (opening_class script) script.classes }
+opening_of script = record { script = script; threads = map (opening_thread script) script.threads; classes = map (opening_class script) script.classes; profile = Standard }
 
--- the machine of a script
+-- the machine of a script in the standard profile, and in any
 abbrev pub opening : ScriptPart → State
 opening script = opening_of (arranged script)
+
+abbrev pub opening_as : Profile → ScriptPart → State
+opening_as profile script = record (opening script) { profile = profile }

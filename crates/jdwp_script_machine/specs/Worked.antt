@@ -63,10 +63,10 @@ machine_with slots =
     opening (record {
       name = codes "A";
       sizes = record { field = 8; method = 8; object = 8; reference = 8; frame = 8 };
-      groups = record { id = 5; name = codes "main"; parent = 0 } ∷ [];
+      groups = record { id = 5; name = codes "main"; parent = 0; class = 0 } ∷ [];
       classes = main_class ∷ [];
       objects = [];
-      threads = record { id = 1; name = codes "main"; group = 5; steps = steps_with slots } ∷ record { id = 2; name = codes "work"; group = 5; steps = [] } ∷ [];
+      threads = record { id = 1; name = codes "main"; group = 5; steps = steps_with slots; class = 0 } ∷ record { id = 2; name = codes "work"; group = 5; steps = []; class = 0 } ∷ [];
       modules = record { id = 7; name = codes "base" } ∷ record { id = 6; name = codes "app" } ∷ [];
     })
 

@@ -5,11 +5,13 @@ ghost use Rattle.jdwp_layout.specs.CommandNumbers.{EVENT_REQUEST};
 ghost use Rattle.jdwp_machine.specs.Laws.{takes_memory};
 ghost use Rattle.jdwp_script_machine.specs.StateMeanings.{state_now};
 ghost use Rattle.jdwp_script_machine.specs.Answers.{answer_at};
+ghost use Rattle.jdwp_script_machine.specs.ProfileAnswers.{answer_in};
 
 use crate::array_answers::array_answer;
 use crate::class_answers::{class_type_answer, reference_type_answer};
 use crate::frame_answers::stack_frame_answer;
 use crate::group_answers::group_answer;
+use crate::jdi_answers::jdi_answer_at;
 use crate::location_answers::set_answer;
 use crate::machine_answers::virtual_machine_answer;
 use crate::method_answers::method_answer;
@@ -23,6 +25,7 @@ use jdwp_layout::numbers::{
     THREAD_REFERENCE, VIRTUAL_MACHINE,
 };
 use jdwp_layout::{Answer, Datum};
+use jdwp_machine::Profile;
 use jdwp_wire::{ErrorCode, NoMemory};
 use std::alloc::Global;
 
@@ -78,5 +81,29 @@ fn event_request_answer(
         set_answer(alloc, &state.script, content)
     } else {
         Ok(Answer::Error(ErrorCode::NOT_IMPLEMENTED))
+    }
+}
+
+/// The same in the machine's profile.
+///
+/// # Errors
+/// `NoMemory` where an allocation was refused; a refusal takes no memory.
+pub(crate) fn answer_by(
+    alloc: Global,
+    state: &MachineState,
+    set: u8,
+    number: u8,
+    content: &[Datum],
+) -> Result<Answer, NoMemory>
+    ensures value { IfOk result (λ a. a ≡ answer_in state.now.profile (state_now state.now) set
+        number (meanings content.now)) }
+    // A refusal takes no memory.
+    ensures memory { IfErr result (λ _.
+        IsTrue (takes_memory (answer_in state.now.profile (state_now state.now) set number
+        (meanings content.now)))) }
+{
+    match state.profile {
+        Profile::Standard => answer_at(alloc, state, set, number, content),
+        Profile::Jdi => jdi_answer_at(alloc, state, set, number, content),
     }
 }

@@ -13,6 +13,7 @@ mod field_values;
 mod frame_answers;
 mod group_answers;
 mod happening;
+mod jdi_answers;
 pub mod laws;
 mod layers;
 mod location_answers;
@@ -32,6 +33,7 @@ mod state;
 mod static_values;
 mod steps;
 mod thread_answers;
+mod unnamed_module;
 mod worked;
 
 pub use machine::ScriptMachine;

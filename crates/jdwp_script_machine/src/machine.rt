@@ -7,11 +7,11 @@ ghost use Rattle.jdwp_script.specs.Reading.{Gives};
 ghost use Rattle.jdwp_machine.specs.Meanings.{numbers};
 ghost use Rattle.jdwp_script_machine.specs.States.{living};
 ghost use Rattle.jdwp_script_machine.specs.StateMeanings.{thread_now};
-ghost use Rattle.jdwp_script_machine.specs.Machines.{itself, read_machine};
+ghost use Rattle.jdwp_script_machine.specs.Machines.{itself, read_machine, read_machine_as};
 ghost use Rattle.jdwp_script_machine.specs.ScriptMeaning.{script_meaning};
 ghost use Rattle.jdwp_script_machine.specs.ScriptLaws.{script_lawful};
 
-use crate::answers::answer_at;
+use crate::answers::answer_by;
 use crate::happening::next;
 use crate::opening::opening;
 use crate::slots::write_slots_of;
@@ -19,7 +19,7 @@ use crate::state::{MachineState, ThreadState};
 use crate::steps::{end, step};
 use jdwp_event::Happening;
 use jdwp_layout::Answer;
-use jdwp_machine::{Machine, Query};
+use jdwp_machine::{Machine, Profile, Query};
 use jdwp_script::{Script, ScriptFault, Sizes};
 use jdwp_value::{FrameId, ObjectId, Value};
 use jdwp_wire::{IdSizes, Limits, NoMemory};
@@ -77,9 +77,27 @@ impl ScriptMachine {
         ensures live { IfOk result (λ m. (1 ≤ length (script_meaning.live m))
             × (length (script_meaning.live m) ≤ limits.now.live)) }
     {
+        ScriptMachine::read_as(alloc, Profile::Standard, text, limits)
+    }
+
+    /// The same machine in this profile: what it answers beside what it answers in the standard one, and nothing else.
+    ///
+    /// # Errors
+    /// As `read_with`.
+    pub fn read_as(
+        alloc: Global,
+        profile: Profile,
+        text: &str,
+        limits: &Limits,
+    ) -> Result<ScriptMachine, ScriptFault>
+        ensures value { Gives itself result (read_machine_as profile limits.now.live text.now) }
+        // A thread lives at the beginning, and no more than the limit.
+        ensures live { IfOk result (λ m. (1 ≤ length (script_meaning.live m))
+            × (length (script_meaning.live m) ≤ limits.now.live)) }
+    {
         let script = Script::read_with(alloc, text, limits)?;
         let sizes = id_sizes(&script.sizes);
-        let state = opening(alloc, script)?;
+        let state = opening(alloc, profile, script)?;
         let mut live = places_of(alloc, &state.threads)?;
         let count = list_living(&state.threads, &mut live);
         Ok(ScriptMachine {
@@ -120,7 +138,7 @@ impl Machine for ScriptMachine {
     fn query(&self, query: &Query) -> Result<Answer, NoMemory> {
         let alloc = *self.live.allocator();
         let content = query.content.items();
-        answer_at(alloc, &self.state, query.set, query.number, content)
+        answer_by(alloc, &self.state, query.set, query.number, content)
     }
 
     fn write_slots(

@@ -52,7 +52,11 @@ pub(crate) fn object_answer(
 }
 
 /// The type of an object.
-fn object_type(alloc: Global, script: &Script, content: &[Datum]) -> Result<Answer, NoMemory>
+pub(crate) fn object_type(
+    alloc: Global,
+    script: &Script,
+    content: &[Datum],
+) -> Result<Answer, NoMemory>
     ensures value { IfOk result (λ a. a ≡ of_object (script_part script.now) (object_type_answer
         (script_part script.now)) (meanings content.now)) }
     // A refusal takes no memory.
@@ -83,7 +87,7 @@ fn type_of(alloc: Global, script: &Script, object: &Object) -> Result<Answer, No
 }
 
 /// The tag and the id of a class.
-fn class_told(alloc: Global, class: &Class) -> Result<Answer, NoMemory>
+pub(crate) fn class_told(alloc: Global, class: &Class) -> Result<Answer, NoMemory>
     ensures value { IfOk result (λ a. a ≡ type_answer (class_part class.now)) }
     // A refusal takes no memory.
     ensures memory { IfErr result (λ _.

@@ -2,13 +2,14 @@
 ghost use Rattle.std.specs.Prelude.{◌≡◌, ℕ, map, IfOk, OnOk};
 ghost use Rattle.std.specs.List.{list_any};
 ghost use Rattle.jdwp_script.specs.Meanings.{step_part, script_part};
-ghost use Rattle.jdwp_script_machine.specs.States.{some_step, starts_thread, prepares_class, opening_thread, opening_class, opening_of, opening};
+ghost use Rattle.jdwp_script_machine.specs.States.{some_step, starts_thread, prepares_class, opening_thread, opening_class, opening_of, opening_as};
 ghost use Rattle.jdwp_script_machine.specs.Layers.{Holds, Gains};
 ghost use Rattle.jdwp_script_machine.specs.StateMeanings.{thread_now, class_now, state_now};
 ghost use Rattle.jdwp_script_machine.specs.Sought.{names, is_that, thread_at_opening, class_at_opening};
 
 use crate::arranging::arrange;
 use crate::state::{ClassState, Life, MachineState, ThreadState};
+use jdwp_machine::Profile;
 use jdwp_script::{Script, Step};
 use jdwp_value::{ObjectId, ReferenceTypeId};
 use jdwp_wire::NoMemory;
@@ -24,21 +25,26 @@ pub(crate) enum Sought {
     Prepares,
 }
 
-/// The state in which the script begins. A thread that a step starts waits for it, and a class that a step prepares is
+/// The state in which the script begins, in this profile. A thread that a step starts waits for it, and a class that a step prepares is
 /// unprepared until then.
 ///
 /// # Errors
 /// `NoMemory` where an allocation was refused.
-pub(crate) fn opening(alloc: Global, mut script: Script) -> Result<MachineState, NoMemory>
-    ensures { IfOk result (λ s. state_now s ≡ opening (script_part script)) }
+pub(crate) fn opening(
+    alloc: Global,
+    profile: Profile,
+    mut script: Script,
+) -> Result<MachineState, NoMemory>
+    ensures { IfOk result (λ s. state_now s ≡ opening_as profile (script_part script)) }
 {
     arrange(&mut script);
-    state_of(alloc, script)
+    state_of(alloc, profile, script)
 }
 
 /// The state in which the script begins, whose lists stand by rising id.
-fn state_of(alloc: Global, script: Script) -> Result<MachineState, NoMemory>
-    ensures { IfOk result (λ s. state_now s ≡ opening_of (script_part script)) }
+fn state_of(alloc: Global, profile: Profile, script: Script) -> Result<MachineState, NoMemory>
+    ensures { IfOk result (λ s.
+        state_now s ≡ record (opening_of (script_part script)) { profile = profile }) }
 {
     let threads = opening_threads(alloc, &script)?;
     let classes = opening_classes(alloc, &script)?;
@@ -46,6 +52,7 @@ fn state_of(alloc: Global, script: Script) -> Result<MachineState, NoMemory>
         script,
         threads,
         classes,
+        profile,
     })
 }
 

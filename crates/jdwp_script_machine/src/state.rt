@@ -3,6 +3,7 @@ ghost use Rattle.std.specs.Prelude.{◌≡◌};
 ghost use Rattle.jdwp_script_machine.specs.States.{is_living, has_begun};
 ghost use Rattle.jdwp_script_machine.specs.StateMeanings.{life_now};
 
+use jdwp_machine::Profile;
 use jdwp_script::Script;
 use jdwp_value::{FrameId, MethodId, ObjectId, ReferenceTypeId, Value};
 
@@ -74,10 +75,11 @@ pub struct ClassState {
     pub is_prepared: bool,
 }
 
-/// The script, whose lists stand by rising id, and its threads and classes as they are now, in the script's order.
+/// The script, whose lists stand by rising id, its threads and classes as they are now, in the script's order, and the profile.
 #[derive(Drop)]
 pub struct MachineState {
     pub script: Script,
     pub threads: Vec<ThreadState>,
     pub classes: Vec<ClassState>,
+    pub profile: Profile,
 }

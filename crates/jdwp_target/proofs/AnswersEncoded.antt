@@ -15,8 +15,10 @@ use Rattle.jdwp_layout.specs.CommandTable.{row_at}
 use Rattle.jdwp_layout.specs.Meanings.{DatumMeaning}
 use Rattle.jdwp_layout.specs.Reads.{data_at}
 use Rattle.jdwp_machine.specs.Meanings.{Meaning}
-use Rattle.jdwp_action.specs.Actions.{Command, Raw, action_of, is_implemented}
-use Rattle.jdwp_action.specs.CommandReads.{command_read, content_read, read_by}
+use Rattle.jdwp_action.specs.Actions.{Command, Raw, action_of}
+use Rattle.jdwp_action.specs.CommandReads.{content_read, read_by}
+use Rattle.jdwp_machine.specs.declared.profile.Profile.{Profile}
+use Rattle.jdwp_debuggee.specs.Answering.{is_answered, read_as}
 use Rattle.jdwp_action.specs.RowLayouts.{row_request}
 use Rattle.jdwp_debuggee.specs.Askings.{asked_meaning, asking, asking_of, asks}
 use Rattle.jdwp_debuggee.specs.Debuggees.{Debuggee}
@@ -53,8 +55,8 @@ refused-by : (w : Widths) (set number : ℕ) (bytes : List ℕ) (b : Bool) (x : 
 refused-by w set number bytes true x e = refused-content set number (data_at w (row_request (row_at set number)) bytes) x e
 refused-by w set number bytes false x e = subst (λ (y : ErrorCode). y.0 ≢ NONE.0) (error-same NOT_IMPLEMENTED x e) (omega arith)
 
-was-refused : (w : Widths) (set number : ℕ) (bytes : List ℕ) (x : ErrorCode) → command_read w set number bytes ≡ Err x → x.0 ≢ NONE.0
-was-refused w set number bytes x e = refused-by w set number bytes (is_implemented (record { set = set; number = number; carried = Raw bytes })) x e
+was-refused : (p : Profile) (w : Widths) (set number : ℕ) (bytes : List ℕ) (x : ErrorCode) → read_as p w set number bytes ≡ Err x → x.0 ≢ NONE.0
+was-refused p w set number bytes x e = refused-by w set number bytes (is_answered p (record { set = set; number = number; carried = Raw bytes })) x e
 
 refused-read : {S : Type 0} (m : Meaning S) (settings : Settings) (now : Moment S) (w : Widths) (set number : ℕ) (error : ErrorCode) (read : Result Command ErrorCode)
     → ((x : ErrorCode) → read ≡ Err x → x.0 ≢ NONE.0) → Err error ≡ asks read → EncodesAnswer w set number (carried_out m settings now read).answer
@@ -62,9 +64,9 @@ refused-read m settings now w set number error (Ok c) other e = absurd cc
 refused-read m settings now w set number error (Err x) other e = other x refl
 
 pub refused-encoded : {S : Type 0} (m : Meaning S) (settings : Settings) (now : Moment S) (w : Widths) (set number : ℕ) (body : List ℕ) (error : ErrorCode)
-    → Err error ≡ asks (command_read w set number body) → EncodesAnswer w set number (carried_out m settings now (command_read w set number body)).answer
+    → Err error ≡ asks (read_as settings.profile w set number body) → EncodesAnswer w set number (carried_out m settings now (read_as settings.profile w set number body)).answer
 refused-encoded m settings now w set number body error e =
-    refused-read m settings now w set number error (command_read w set number body) (was-refused w set number body) e
+    refused-read m settings now w set number error (read_as settings.profile w set number body) (was-refused settings.profile w set number body) e
 
 -- ---- a command that is carried out
 
@@ -72,7 +74,7 @@ by-question : (b : Bool) (P : Type 0) → (b ≡ true → P) → (b ≡ false �
 by-question true P asked own = asked refl
 by-question false P asked own = own refl
 
-answer-encoded : {S : Type 0} (m : Meaning S) (settings : Settings) (now : Moment S) (w : Widths) (set number : ℕ) (c : Command) → WasRead set number c
+answer-encoded : {S : Type 0} (m : Meaning S) (settings : Settings) (now : Moment S) (w : Widths) (set number : ℕ) (c : Command) → WasRead settings.profile set number c
     → now.state.handshaken ≡ true → EncodesAnswer w c.set c.number (carried m settings now c (action_of c)).answer → EncodesAnswer w set number (effect m settings now c).answer
 answer-encoded m settings now w set number c r shaken h =
     let answer = (does m settings now c (action_of c)).answer in
@@ -82,7 +84,7 @@ answer-encoded m settings now w set number c r shaken h =
     subst (λ (b : Bool). EncodesAnswer w set number (effect_by m settings now c b).answer) (sym r.implemented) there
 
 carried-read : {S : Type 0} (m : Meaning S) (settings : Settings) (now : Moment S) (w : Widths) (set number : ℕ) (a : code.Action.Action) (read : Result Command ErrorCode)
-    → ((c : Command) → read ≡ Ok c → WasRead set number c) → Ok (asking a) ≡ asks read → now.state.handshaken ≡ true
+    → ((c : Command) → read ≡ Ok c → WasRead settings.profile set number c) → Ok (asking a) ≡ asks read → now.state.handshaken ≡ true
     → ((c : Command) → asking a ≡ asking_of c → is_question (action_of c) ≡ true → EncodesAnswer w c.set c.number (carried m settings now c (action_of c)).answer)
     → ((c : Command) → is_question (action_of c) ≡ false → EncodesAnswer w c.set c.number (carried m settings now c (action_of c)).answer)
     → EncodesAnswer w set number (carried_out m settings now read).answer
@@ -93,21 +95,21 @@ carried-read m settings now w set number a (Ok c) was e shaken asked own =
 carried-read m settings now w set number a (Err x) was e shaken asked own = absurd cc
 
 pub carried-encoded : {S : Type 0} (m : Meaning S) (settings : Settings) (now : Moment S) (w : Widths) (set number : ℕ) (body : List ℕ) (a : code.Action.Action)
-    → Ok (asking a) ≡ asks (command_read w set number body) → now.state.handshaken ≡ true
+    → Ok (asking a) ≡ asks (read_as settings.profile w set number body) → now.state.handshaken ≡ true
     → ((c : Command) → asking a ≡ asking_of c → is_question (action_of c) ≡ true → EncodesAnswer w c.set c.number (carried m settings now c (action_of c)).answer)
     → ((c : Command) → is_question (action_of c) ≡ false → EncodesAnswer w c.set c.number (carried m settings now c (action_of c)).answer)
-    → EncodesAnswer w set number (carried_out m settings now (command_read w set number body)).answer
+    → EncodesAnswer w set number (carried_out m settings now (read_as settings.profile w set number body)).answer
 carried-encoded m settings now w set number body a e shaken asked own =
-    carried-read m settings now w set number a (command_read w set number body) (was-read w set number body) e shaken asked own
+    carried-read m settings now w set number a (read_as settings.profile w set number body) (was-read settings.profile w set number body) e shaken asked own
 
 -- ---- a command that was read, and carried out or refused
 
 pub carried-out : {S : Type 0} (m : Meaning S) (old new : Debuggee S) (set number : ℕ) (body : List ℕ) (asked : code.ParsedCommand.ParsedCommand) (result : Result Done NoMemory)
-    → asked_meaning asked ≡ asks (command_read (m.sizes old.moment.machine) set number body)
-    → IfOk result (λ done. (s n : ℕ) (b : List ℕ) → asked_meaning asked ≡ asks (command_read (m.sizes old.moment.machine) s n b)
-    → IsDone (m.sizes old.moment.machine) (carried_out m old.settings old.moment (command_read (m.sizes old.moment.machine) s n b)) (visits_read m old.settings old.moment (command_read (m.sizes old.moment.machine) s n b) old.visits) old new done)
-    → IfOk result (λ _. (s n : ℕ) (b : List ℕ) → asked_meaning asked ≡ asks (command_read (m.sizes old.moment.machine) s n b)
-    → EncodesAnswer (m.sizes old.moment.machine) s n (carried_out m old.settings old.moment (command_read (m.sizes old.moment.machine) s n b)).answer)
+    → asked_meaning asked ≡ asks (read_as old.settings.profile (m.sizes old.moment.machine) set number body)
+    → IfOk result (λ done. (s n : ℕ) (b : List ℕ) → asked_meaning asked ≡ asks (read_as old.settings.profile (m.sizes old.moment.machine) s n b)
+    → IsDone (m.sizes old.moment.machine) (carried_out m old.settings old.moment (read_as old.settings.profile (m.sizes old.moment.machine) s n b)) (visits_read m old.settings old.moment (read_as old.settings.profile (m.sizes old.moment.machine) s n b) old.visits) old new done)
+    → IfOk result (λ _. (s n : ℕ) (b : List ℕ) → asked_meaning asked ≡ asks (read_as old.settings.profile (m.sizes old.moment.machine) s n b)
+    → EncodesAnswer (m.sizes old.moment.machine) s n (carried_out m old.settings old.moment (read_as old.settings.profile (m.sizes old.moment.machine) s n b)).answer)
     → IfOk result (IsCarriedOut m old new set number body)
 carried-out m old new set number body asked (Ok done) value did encoded = record { becomes = did set number body value; encoded = encoded set number body value }
 carried-out m old new set number body asked (Err e) value did encoded = tt
@@ -133,7 +135,7 @@ encodes-start m v true h = tt
 encodes-start m v false h = h refl
 
 pub encodes-command : {S : Type 0} (m : Meaning S) (v : Target S) (header : Header) (body : List ℕ) (set number : ℕ) → header.kind ≡ kind.Command set number
-    → EncodesAnswer (m.sizes v.moment.machine) set number (carried_out m v.settings v.moment (command_read (m.sizes v.moment.machine) set number body)).answer
+    → EncodesAnswer (m.sizes v.moment.machine) set number (carried_out m v.settings v.moment (read_as v.settings.profile (m.sizes v.moment.machine) set number body)).answer
     → EncodesFor m v (Packet header body)
 encodes-command m v header body set number is h = subst (λ (x : PacketKind). EncodesByKind m v x body) (sym is) h
 

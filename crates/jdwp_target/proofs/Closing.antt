@@ -16,7 +16,9 @@ use Rattle.jdwp_end.specs.Ends.{is_open_phase}
 use Rattle.jdwp_machine.specs.Meanings.{Meaning}
 use Rattle.jdwp_action.specs.Actions
 use Rattle.jdwp_action.specs.Actions.{Action, Carried, Command, Content, Raw, action_by, action_of, clear_action, other_action, set_action, slots_of, thread_action, thread_of, is_dispose}
-use Rattle.jdwp_action.specs.CommandReads.{command_read, content_read, read_by}
+use Rattle.jdwp_action.specs.CommandReads.{content_read, read_by}
+use Rattle.jdwp_machine.specs.declared.profile.Profile.{Profile}
+use Rattle.jdwp_debuggee.specs.Answering.{read_as}
 use Rattle.jdwp_debuggee.specs.Effects.{Effect, does, effect_by}
 use Rattle.jdwp_debuggee.specs.Effects as effects
 use Rattle.jdwp_debuggee.specs.Settings.{Settings}
@@ -111,20 +113,20 @@ read-of w set number body true c e = content-of set number _ c e
 nonzero : (byte : ℕ) (body : List ℕ) → (length (byte ∷ body) == 0) ≡ false
 nonzero byte body = elim (cases_Bool (length (byte ∷ body) == 0)) [ inl e ↦ absurd (omega (arith, eqb-true (length (byte ∷ body)) 0 e)) | inr e ↦ e ]
 
-extra-read : (w : Widths) (byte : ℕ) (body : List ℕ) → command_read w VIRTUAL_MACHINE DISPOSE.number (byte ∷ body) ≡ Err ILLEGAL_ARGUMENT
-extra-read w byte body = rw (nonzero byte body) refl
+extra-read : (p : Profile) (w : Widths) (byte : ℕ) (body : List ℕ) → read_as p w VIRTUAL_MACHINE DISPOSE.number (byte ∷ body) ≡ Err ILLEGAL_ARGUMENT
+extra-read p w byte body = rw (nonzero byte body) refl
 
-bare-read : (w : Widths) (body : List ℕ) (c : Command) → command_read w VIRTUAL_MACHINE DISPOSE.number body ≡ Ok c → body ≡ []
-bare-read w [] c e = refl
-bare-read w (byte ∷ body) c e = absurd (let f = sym (extra-read w byte body) ∙ e in cc)
+bare-read : (p : Profile) (w : Widths) (body : List ℕ) (c : Command) → read_as p w VIRTUAL_MACHINE DISPOSE.number body ≡ Ok c → body ≡ []
+bare-read p w [] c e = refl
+bare-read p w (byte ∷ body) c e = absurd (let f = sym (extra-read p w byte body) ∙ e in cc)
 
-dispose-read : (w : Widths) (set number : ℕ) (body : List ℕ) (c : Command) → command_read w set number body ≡ Ok c → is_dispose (action_of c) ≡ true → (set ≡ VIRTUAL_MACHINE) × (number ≡ DISPOSE.number) × (body ≡ [])
-dispose-read w set number body c e d =
+dispose-read : (p : Profile) (w : Widths) (set number : ℕ) (body : List ℕ) (c : Command) → read_as p w set number body ≡ Ok c → is_dispose (action_of c) ≡ true → (set ≡ VIRTUAL_MACHINE) × (number ≡ DISPOSE.number) × (body ≡ [])
+dispose-read p w set number body c e d =
     let of = read-of w set number body _ c e in
     let is = both _ _ (dispose-by (thread_of c) c d) in
     let at : set ≡ VIRTUAL_MACHINE = sym of.set ∙ eqb-true c.set VIRTUAL_MACHINE is.0 in
     let as-number : number ≡ DISPOSE.number = sym of.number ∙ eqb-true c.number DISPOSE.number is.1 in
-    (at, as-number, bare-read w body c (rw (at, as-number) at e))
+    (at, as-number, bare-read p w body c (rw (at, as-number) at e))
 
 -- ---- what a command closes
 
@@ -204,14 +206,14 @@ replied-why now w id a e false is why closed = why.closes (closes-of e.closes cl
 abbrev pub Ends : {S : Type 0} → Message → Standing S → Type 0
 Ends message after = IsDispose message ⊎ (after.moment.state.alive ≡ false)
 
-command-why : {S : Type 0} (m : Meaning S) (settings : Settings) (now : Standing S) (id set number : ℕ) (body : List ℕ) (r : Result Command ErrorCode) → command_read (m.sizes now.moment.machine) set number body ≡ r
+command-why : {S : Type 0} (m : Meaning S) (settings : Settings) (now : Standing S) (id set number : ℕ) (body : List ℕ) (r : Result Command ErrorCode) → read_as settings.profile (m.sizes now.moment.machine) set number body ≡ r
     → is_open_phase (replies_by now (m.sizes now.moment.machine) id (carried_out m settings now.moment r) (carried_out m settings now.moment r).dies).after.phase ≡ false
     → ((set ≡ VIRTUAL_MACHINE) × (number ≡ DISPOSE.number) × (body ≡ []))
     ⊎ ((replies_by now (m.sizes now.moment.machine) id (carried_out m settings now.moment r) (carried_out m settings now.moment r).dies).after.moment.state.alive ≡ false)
 command-why m settings now id set number body (Err error) e closed = absurd cc
 command-why m settings now id set number body (Ok c) e closed =
     elim (replied-why now (m.sizes now.moment.machine) id (action_of c) (carried_out m settings now.moment (Ok c)) _ refl (effect-why m settings now.moment c _) closed) [
-      | inl d ↦ inl (dispose-read (m.sizes now.moment.machine) set number body c e d)
+      | inl d ↦ inl (dispose-read settings.profile (m.sizes now.moment.machine) set number body c e d)
       | inr d ↦ inr d
     ]
 

@@ -11,7 +11,7 @@ use Rattle.jdwp_end.specs.declared.phase.Phase.TheVariants.{Closed, AwaitingHand
 use Rattle.jdwp_end.specs.FrontLaws.{IsDue}
 use Rattle.jdwp_event.specs.Composites.{CompositeMeaning}
 use Rattle.jdwp_machine.specs.Meanings.{Meaning}
-use Rattle.jdwp_action.specs.CommandReads.{command_read}
+use Rattle.jdwp_debuggee.specs.Answering.{read_as}
 use Rattle.jdwp_debuggee.specs.Effects.{Effect}
 use Rattle.jdwp_debuggee.specs.Settings.{Settings}
 use Rattle.jdwp_debuggee.specs.Steps.{Step, may_step, occurs}
@@ -28,7 +28,7 @@ replied now w id e false = elim e.closes as (λ b. (phase_after b ≡ Closed) �
 packet-phase : {S : Type 0} (m : Meaning S) (settings : Settings) (now : Standing S) (id : ℕ) (k : PacketKind) (body : List ℕ)
     → ((handles_packet m settings (established now) id k body).after.phase ≡ Closed) ⊎ ((handles_packet m settings (established now) id k body).after.phase ≡ Established)
 packet-phase m settings now id (kind.Command set number) body =
-    let e = carried_out m settings now.moment (command_read (m.sizes now.moment.machine) set number body) in
+    let e = carried_out m settings now.moment (read_as settings.profile (m.sizes now.moment.machine) set number body) in
     replied (established now) (m.sizes now.moment.machine) id e e.dies
 packet-phase m settings now id (kind.Reply error) body = inr refl
 
@@ -155,7 +155,7 @@ reply-packets limit now w id e false h = h
 kind-packets : {S : Type 0} (limit : ℕ) (m : Meaning S) (settings : Settings) (now : Standing S) (id : ℕ) (k : PacketKind) (body : List ℕ)
     → AreSendable limit (handles_packet m settings now id k body).sends → AllByRecursion (IsPacketMessage limit) (handles_packet m settings now id k body).sends
 kind-packets limit m settings now id (kind.Command set number) body h =
-    let e = carried_out m settings now.moment (command_read (m.sizes now.moment.machine) set number body) in
+    let e = carried_out m settings now.moment (read_as settings.profile (m.sizes now.moment.machine) set number body) in
     reply-packets limit now (m.sizes now.moment.machine) id e e.dies h
 kind-packets limit m settings now id (kind.Reply error) body h = tt
 

@@ -15,7 +15,7 @@ use Rattle.jdwp_end.specs.Ends.{End, front_of, is_established, is_established_ph
 use Rattle.jdwp_end.specs.Ends as ends
 use Rattle.jdwp_end.specs.FrontLaws.{IsDue, in-front}
 use Rattle.jdwp_machine.specs.Meanings.{Meaning}
-use Rattle.jdwp_action.specs.CommandReads.{command_read}
+use Rattle.jdwp_debuggee.specs.Answering.{read_as}
 use Rattle.jdwp_debuggee.specs.Debuggees.{Debuggee}
 use Rattle.jdwp_debuggee.specs.Wants.{MayWantAsRead}
 use Rattle.jdwp_target.specs.declared.deferral.DeferredCommand.{DeferredCommand}
@@ -80,12 +80,12 @@ room-left now (kind.Reply error) e = absurd (cc)
 -- what may want memory: a command that is not put off
 reads-kind : {S : Type 0} (m : Meaning S) (d : Debuggee S) (old : Target S) (k : PacketKind) (body : List ℕ) → d.settings ≡ old.settings → d.moment ≡ old.moment → IsWanting m d k body → kind_needs_memory m old k body
 reads-kind m d old k body settings moment (set, number, is, wants) =
-    let here : MayWantAsRead m old.settings old.moment (command_read (m.sizes old.moment.machine) set number body) = rw (settings, moment) at wants in
+    let here : MayWantAsRead m old.settings old.moment (read_as old.settings.profile (m.sizes old.moment.machine) set number body) = rw (settings, moment) at wants in
     subst (λ (x : PacketKind). kind_needs_memory m old x body) (sym is) here
 
 pub needs-as-read : {S : Type 0} (m : Meaning S) (d : Debuggee S) (old : Target S) (header : Header) (body : List ℕ) (set number : ℕ) → defers (full_standing old) (Packet header body) ≡ false
     → header.kind ≡ kind.Command set number → d.settings ≡ old.settings → d.moment ≡ old.moment
-    → MayWantAsRead m d.settings d.moment (command_read (m.sizes d.moment.machine) set number body) → NeedsMemory m old (Packet header body)
+    → MayWantAsRead m d.settings d.moment (read_as d.settings.profile (m.sizes d.moment.machine) set number body) → NeedsMemory m old (Packet header body)
 needs-as-read m d old header body set number at_once is settings moment wants =
     needs-at-once m old (Packet header body) at_once (reads-kind m d old header.kind body settings moment (set, number, is, wants))
 
@@ -244,8 +244,8 @@ pub deferred-read : {S : Type 0} (m : Meaning S) (d new : Debuggee S) (c : Defer
 deferred-read m d new c done did = (c.set, c.number, refl, refl, did)
 
 pub deferred-needs : {S : Type 0} (m : Meaning S) (old : Target S) (w : Widths) (c : DeferredCommand) → w ≡ m.sizes old.moment.machine
-    → MayWantAsRead m old.settings old.moment (command_read w c.set c.number c.body.items) → NeedsMemoryToHandle m old (message_of c)
-deferred-needs m old w c w-is wants = subst (λ (x : Widths). MayWantAsRead m old.settings old.moment (command_read x c.set c.number c.body.items)) w-is wants
+    → MayWantAsRead m old.settings old.moment (read_as old.settings.profile w c.set c.number c.body.items) → NeedsMemoryToHandle m old (message_of c)
+deferred-needs m old w c w-is wants = subst (λ (x : Widths). MayWantAsRead m old.settings old.moment (read_as old.settings.profile x c.set c.number c.body.items)) w-is wants
 
 established-is : (p : Phase) → is_established_phase p ≡ true → p ≡ Established
 established-is Closed h = absurd (cc)

@@ -15,8 +15,8 @@ use Rattle.jdwp_event.specs.Occurrences.{HappeningMeaning, started, runs_out}
 use Rattle.jdwp_event.specs.Requests.{Request}
 use Rattle.jdwp_machine.specs.Meanings.{Meaning}
 use Rattle.jdwp_action.specs.Actions
-use Rattle.jdwp_action.specs.Actions.{Action, Command, action_of, is_implemented}
-use Rattle.jdwp_action.specs.CommandReads.{command_read}
+use Rattle.jdwp_debuggee.specs.Answering.{is_answered, read_as}
+use Rattle.jdwp_action.specs.Actions.{Action, Command, action_of}
 use Rattle.jdwp_debuggee.specs.Effects.{Effect, does, effect_by, suspend_by, set_by, suspend_thread_by, suspend_thread_at, resume_thread_by, slots_by, slots_at}
 use Rattle.jdwp_debuggee.specs.Refusals.{set_refusal}
 use Rattle.jdwp_debuggee.specs.Settings.{Settings}
@@ -124,7 +124,7 @@ keeps-by m settings now c true = keeps m settings now c (action_of c)
 keeps-by m settings now c false = goes-on now _ refl refl refl
 
 keeps-read : {S : Type 0} (m : Meaning S) (settings : Settings) (now : Moment S) (read : Result Command ErrorCode) → Keeps now (carried_out m settings now read)
-keeps-read m settings now (Ok c) = keeps-by m settings now c (is_implemented c)
+keeps-read m settings now (Ok c) = keeps-by m settings now c (is_answered settings.profile c)
 keeps-read m settings now (Err e) = goes-on now _ refl refl refl
 
 replied-open : {S : Type 0} (now : Standing S) (w : Widths) (id : ℕ) (e : Effect S) (closes : Bool) → (closes ≡ true → e.after.state.requests ≡ []) → e.after.state.next_packet ≡ now.moment.state.next_packet
@@ -138,7 +138,7 @@ replied now w id e false dead k = let r = replied-open now w id e e.closes k.clo
 
 handled-packet : {S : Type 0} (m : Meaning S) (settings : Settings) (now : Standing S) (id : ℕ) (k : PacketKind) (body : List ℕ) → Numbers now.moment (handles_packet m settings (established now) id k body)
 handled-packet m settings now id (kind.Command set number) body =
-    let e = keeps-read m settings now.moment (command_read (m.sizes now.moment.machine) set number body) in
+    let e = keeps-read m settings now.moment (read_as settings.profile (m.sizes now.moment.machine) set number body) in
     replied (established now) (m.sizes now.moment.machine) id _ _ e.dead e
 handled-packet m settings now id (kind.Reply error) body = record { ids = refl; idle = tt }
 

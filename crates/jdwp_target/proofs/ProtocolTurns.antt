@@ -22,9 +22,9 @@ use Rattle.jdwp_event.specs.RequestLists.{without, without_breakpoints}
 use Rattle.jdwp_event.specs.Requests.{new_request}
 use Rattle.jdwp_machine.specs.Meanings.{Meaning}
 use Rattle.jdwp_action.specs.Actions
-use Rattle.jdwp_action.specs.Actions.{Action, Command, action_of, is_implemented}
+use Rattle.jdwp_debuggee.specs.Answering.{is_answered, read_as}
+use Rattle.jdwp_action.specs.Actions.{Action, Command, action_of}
 use Rattle.jdwp_action.specs.AnswerPackets.{EncodesAnswer, error_of}
-use Rattle.jdwp_action.specs.CommandReads.{command_read}
 use Rattle.jdwp_debuggee.specs.Effects.{Effect, asked, does, effect_by, first_origin, resume_thread_by, set_by, slots_at, slots_by, step_thread, suspend_by, suspend_thread_at, suspend_thread_by}
 use Rattle.jdwp_debuggee.specs.Facts.{is_data}
 use Rattle.jdwp_debuggee.specs.Settings.{Settings}
@@ -45,7 +45,7 @@ use Rattle.jdwp_target.specs.Turns.{EncodesByKind, EncodesNext, EncodesUnless, T
 
 -- the effect of the command that these data read as, or of its refusal
 abbrev pub effect_at : {S : Type 0} → Meaning S → Target S → ℕ → ℕ → List ℕ → Effect S
-effect_at m old set number body = carried_out m old.settings old.moment (command_read (m.sizes old.moment.machine) set number body)
+effect_at m old set number body = carried_out m old.settings old.moment (read_as old.settings.profile (m.sizes old.moment.machine) set number body)
 
 -- a packet in front was a command that was handled at once, and its reply has this id and error code
 pub record Handled {S : Type 0} (m : Meaning S) (old new : Target S) (header : Header) (body : List ℕ) (used id : ℕ) (error : ErrorCode) : Type 0 where
@@ -147,7 +147,7 @@ carried-by {S = S} m action old new result a h =
     let kinds : kind.Command h.set h.number ≡ kind.Command a.set a.number = sym h.command ∙ a.is_command in
     let set : h.set ≡ a.set = let f = kinds in cc in
     let number : h.number ≡ a.number = let f = kinds in cc in
-    let is : effect_at m old h.set h.number a.body ≡ effect_by m old.settings old.moment a.command (is_implemented a.command) = rw (set, number, a.reads) refl in
+    let is : effect_at m old h.set h.number a.body ≡ effect_by m old.settings old.moment a.command (is_answered old.settings.profile a.command) = rw (set, number, a.reads) refl in
     let answers : is_data (effect_at m old h.set h.number a.body).answer ≡ true = data-of w h.set h.number _ h.told h.encoded in
     let whole = is
     ∙ (effect-does m old.settings old.moment a.command _ (subst (λ (e : Effect S). is_data e.answer ≡ true) is answers)
@@ -386,7 +386,7 @@ refused-found m old new id error next found some =
     let h = found.handled in
     let e = effect_at m old h.set h.number found.body in
     refused-by m old new id error found.header found.body found.used h (leaves m old new found.header found.body found.used id error h)
-    (carried_out-refuses m old.settings old.moment (command_read (m.sizes old.moment.machine) h.set h.number found.body) (error-of e.answer error h.told some))
+    (carried_out-refuses m old.settings old.moment (read_as old.settings.profile (m.sizes old.moment.machine) h.set h.number found.body) (error-of e.answer error h.told some))
 
 pub turned-refused : {S : Type 0} (m : Meaning S) (old new : Target S) (id : ℕ) (error : ErrorCode) → Turned m old new (Ok (turn.Replied id error)) → error ≢ NONE → new.moment.state ≡ old.moment.state
 turned-refused m old new id error turned some = refused-found m old new id error (front_of old.end) (has-handled m old new (front_of old.end) id error turned.0 turned.1) some

@@ -8,7 +8,7 @@ use Rattle.jdwp_machine.specs.Meanings.{Meaning}
 use Rattle.jdwp_action.specs.Actions
 use Rattle.jdwp_action.specs.Actions.{Action, Command, action_of}
 use Rattle.jdwp_action.specs.AnswerPackets.{EncodesAnswer}
-use Rattle.jdwp_action.specs.CommandReads.{command_read}
+use Rattle.jdwp_debuggee.specs.Answering.{read_as}
 use Rattle.jdwp_debuggee.specs.Askings.{asked_meaning, asks, is_short, question_of}
 use Rattle.jdwp_debuggee.specs.Debuggees.{Debuggee}
 use Rattle.jdwp_debuggee.specs.Effects.{Effect, effect, refused}
@@ -24,35 +24,36 @@ use Rattle.jdwp_target.specs.Standings.{carried_out}
 use Rattle.jdwp_target.specs.TurnParts.{IsCarriedOut, IsDone}
 use Rattle.jdwp_target.specs.Visits.{visits_read}
 use Rattle.jdwp_target.specs.declared.turning.Done.{Done}
+use Rattle.jdwp_machine.specs.declared.profile.Profile.{Profile}
 use Rattle.jdwp_target.proofs.RightTurns.{WasRead, was-read}
 
 -- ---- it may want memory
 
 -- to be carried out, behind reading
-wants-by : {S : Type 0} (m : Meaning S) (settings : Settings) (now : Moment S) (set number : ℕ) (read : Result Command ErrorCode) → ((c : Command) → read ≡ Ok c → WasRead set number c) → is_short set number ≡ false
+wants-by : {S : Type 0} (p : Profile) (m : Meaning S) (settings : Settings) (now : Moment S) (set number : ℕ) (read : Result Command ErrorCode) → ((c : Command) → read ≡ Ok c → WasRead p set number c) → is_short set number ≡ false
     → MayWantAsked m settings now (asks read) → MayWantAsRead m settings now read
-wants-by m settings now set number (Ok c) was long wants =
+wants-by p m settings now set number (Ok c) was long wants =
     let read = was c refl in
     record { long = rw (read.set, read.number) long; admitted = wanting-admitted m settings now (question_of c) (action_of c) wants; for = inr wants }
-wants-by m settings now set number (Err e) was long wants = wants
+wants-by p m settings now set number (Err e) was long wants = wants
 
 pub wants-carried : {S : Type 0} (m : Meaning S) (settings : Settings) (now : Moment S) (w : Widths) (set number : ℕ) (body : List ℕ) (asked : code.ParsedCommand.ParsedCommand)
-    → asked_meaning asked ≡ asks (command_read w set number body) → is_short set number ≡ false → MayWantAsked m settings now (asked_meaning asked) → MayWantAsRead m settings now (command_read w set number body)
+    → asked_meaning asked ≡ asks (read_as settings.profile w set number body) → is_short set number ≡ false → MayWantAsked m settings now (asked_meaning asked) → MayWantAsRead m settings now (read_as settings.profile w set number body)
 wants-carried m settings now w set number body asked value long wants =
-    wants-by m settings now set number (command_read w set number body) (was-read w set number body) long (rw value at wants)
+    wants-by settings.profile m settings now set number (read_as settings.profile w set number body) (was-read settings.profile w set number body) long (rw value at wants)
 
 -- to be read
-unread-by : {S : Type 0} (m : Meaning S) (settings : Settings) (now : Moment S) (set number : ℕ) (read : Result Command ErrorCode) → ((c : Command) → read ≡ Ok c → WasRead set number c) → is_short set number ≡ false
+unread-by : {S : Type 0} (p : Profile) (m : Meaning S) (settings : Settings) (now : Moment S) (set number : ℕ) (read : Result Command ErrorCode) → ((c : Command) → read ≡ Ok c → WasRead p set number c) → is_short set number ≡ false
     → ReadsData read → ((c : Command) → read ≡ Ok c → None ≡ own_refusal settings now.state (action_of c)) → MayWantAsRead m settings now read
-unread-by m settings now set number (Ok c) was long kept admitted =
+unread-by p m settings now set number (Ok c) was long kept admitted =
     let read = was c refl in
     record { long = rw (read.set, read.number) long; admitted = sym (admitted c refl); for = inl kept }
-unread-by m settings now set number (Err e) was long kept admitted = kept
+unread-by p m settings now set number (Err e) was long kept admitted = kept
 
-pub wants-unread : {S : Type 0} (m : Meaning S) (settings : Settings) (now : Moment S) (w : Widths) (set number : ℕ) (body : List ℕ) → is_short set number ≡ false → ReadsData (command_read w set number body)
-    → ((c : Command) → command_read w set number body ≡ Ok c → is_short set number ≡ false → None ≡ own_refusal settings now.state (action_of c)) → MayWantAsRead m settings now (command_read w set number body)
+pub wants-unread : {S : Type 0} (m : Meaning S) (settings : Settings) (now : Moment S) (w : Widths) (set number : ℕ) (body : List ℕ) → is_short set number ≡ false → ReadsData (read_as settings.profile w set number body)
+    → ((c : Command) → read_as settings.profile w set number body ≡ Ok c → is_short set number ≡ false → None ≡ own_refusal settings now.state (action_of c)) → MayWantAsRead m settings now (read_as settings.profile w set number body)
 wants-unread m settings now w set number body long kept admitted =
-    unread-by m settings now set number (command_read w set number body) (was-read w set number body) long kept (λ (c : Command). λ read. admitted c read long)
+    unread-by settings.profile m settings now set number (read_as settings.profile w set number body) (was-read settings.profile w set number body) long kept (λ (c : Command). λ read. admitted c read long)
 
 -- ---- it is refused
 
@@ -93,13 +94,13 @@ encoded-by {S = S} m w set number d e (Ok c) some kept is = subst (λ (x : Effec
 encoded-by m w set number d e (Err x) some kept is = absurd kept
 
 pub refused-unread : {S : Type 0} (m : Meaning S) (d : Debuggee S) (w : Widths) (set number : ℕ) (body : List ℕ) (e : ErrorCode) (done : Done) → w ≡ m.sizes d.moment.machine → is_short set number ≡ false
-    → ReadsData (command_read w set number body)
-    → ((c : Command) → command_read w set number body ≡ Ok c → is_short set number ≡ false → effect m d.settings d.moment c ≡ refused d.moment e) → 1 ≤ e.0 → done ≡ refusal e → IsCarriedOut m d d set number body done
+    → ReadsData (read_as d.settings.profile w set number body)
+    → ((c : Command) → read_as d.settings.profile w set number body ≡ Ok c → is_short set number ≡ false → effect m d.settings d.moment c ≡ refused d.moment e) → 1 ≤ e.0 → done ≡ refusal e → IsCarriedOut m d d set number body done
 refused-unread m d w set number body e done same long kept is some told =
-    let here : ReadsData (command_read (m.sizes d.moment.machine) set number body) = rw same at kept in
-    let found : (c : Command) → command_read (m.sizes d.moment.machine) set number body ≡ Ok c → effect m d.settings d.moment c ≡ refused d.moment e =
-    λ (c : Command). λ read. is c (subst (λ (x : Widths). command_read x set number body ≡ Ok c) (sym same) read) long in
+    let here : ReadsData (read_as d.settings.profile (m.sizes d.moment.machine) set number body) = rw same at kept in
+    let found : (c : Command) → read_as d.settings.profile (m.sizes d.moment.machine) set number body ≡ Ok c → effect m d.settings d.moment c ≡ refused d.moment e =
+    λ (c : Command). λ read. is c (subst (λ (x : Widths). read_as d.settings.profile x set number body ≡ Ok c) (sym same) read) long in
     rw told (record {
-      becomes = refused-by m (m.sizes d.moment.machine) d e (command_read (m.sizes d.moment.machine) set number body) here found;
-      encoded = encoded-by m (m.sizes d.moment.machine) set number d e (command_read (m.sizes d.moment.machine) set number body) some here found;
+      becomes = refused-by m (m.sizes d.moment.machine) d e (read_as d.settings.profile (m.sizes d.moment.machine) set number body) here found;
+      encoded = encoded-by m (m.sizes d.moment.machine) set number d e (read_as d.settings.profile (m.sizes d.moment.machine) set number body) some here found;
     })

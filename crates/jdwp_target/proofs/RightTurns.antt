@@ -29,8 +29,10 @@ use Rattle.jdwp_event.specs.Composites.{composite_data, vm_death, vm_start}
 use Rattle.jdwp_event.specs.Modifiers.{modifiers_of}
 use Rattle.jdwp_machine.specs.Meanings.{Meaning}
 use Rattle.jdwp_action.specs.Actions
-use Rattle.jdwp_action.specs.Actions.{Action, Command, Raw, action_of, is_implemented, is_dispose, is_exit}
-use Rattle.jdwp_action.specs.CommandReads.{command_read, content_read, read_by, with_content}
+use Rattle.jdwp_action.specs.Actions.{Action, Command, Raw, action_of, is_dispose, is_exit}
+use Rattle.jdwp_action.specs.CommandReads.{content_read, read_by, with_content}
+use Rattle.jdwp_machine.specs.declared.profile.Profile.{Profile}
+use Rattle.jdwp_debuggee.specs.Answering.{is_answered, read_as}
 use Rattle.jdwp_action.specs.RowLayouts.{row_request}
 use Rattle.jdwp_debuggee.specs.Askings.{Asking, action_meaning, asked_meaning, asking, asking_of, asks, is_short}
 use Rattle.jdwp_debuggee.specs.Debuggees.{Debuggee, at_moment, visiting}
@@ -152,24 +154,24 @@ command-same x y e = cc
 pub asking-same : (x y : Asking) → asking_ok x ≡ asking_ok y → x ≡ y
 asking-same x y e = cc
 
-pub record WasRead (s n : ℕ) (c : Command) : Type 0 where
-  pub implemented : is_implemented c ≡ true
+pub record WasRead (p : Profile) (s n : ℕ) (c : Command) : Type 0 where
+  pub implemented : is_answered p c ≡ true
   pub set : c.set ≡ s
   pub number : c.number ≡ n
 
-was-read-content : (set number : ℕ) (found : Result (List DatumMeaning) DataFault) (c : Command) → is_implemented (record { set = set; number = number; carried = Raw [] }) ≡ true
-    → content_read set number found ≡ Ok c → WasRead set number c
-was-read-content set number (Ok content) c impl e =
-    subst (λ (x : Command). WasRead set number x) (command-same (with_content set number content) c e) (record { implemented = impl; set = refl; number = refl })
-was-read-content set number (Err fault) c impl e = absurd cc
+was-read-content : (p : Profile) (set number : ℕ) (found : Result (List DatumMeaning) DataFault) (c : Command) → is_answered p (record { set = set; number = number; carried = Raw [] }) ≡ true
+    → content_read set number found ≡ Ok c → WasRead p set number c
+was-read-content p set number (Ok content) c impl e =
+    subst (λ (x : Command). WasRead p set number x) (command-same (with_content set number content) c e) (record { implemented = impl; set = refl; number = refl })
+was-read-content p set number (Err fault) c impl e = absurd cc
 
-was-read-by : (w : Widths) (set number : ℕ) (bytes : List ℕ) (b : Bool) (c : Command) → is_implemented (record { set = set; number = number; carried = Raw [] }) ≡ b
-    → read_by w set number bytes b ≡ Ok c → WasRead set number c
-was-read-by w set number bytes true c impl e = was-read-content set number (data_at w (row_request (row_at set number)) bytes) c impl e
-was-read-by w set number bytes false c impl e = absurd cc
+was-read-by : (p : Profile) (w : Widths) (set number : ℕ) (bytes : List ℕ) (b : Bool) (c : Command) → is_answered p (record { set = set; number = number; carried = Raw [] }) ≡ b
+    → read_by w set number bytes b ≡ Ok c → WasRead p set number c
+was-read-by p w set number bytes true c impl e = was-read-content p set number (data_at w (row_request (row_at set number)) bytes) c impl e
+was-read-by p w set number bytes false c impl e = absurd cc
 
-pub was-read : (w : Widths) (set number : ℕ) (bytes : List ℕ) (c : Command) → command_read w set number bytes ≡ Ok c → WasRead set number c
-was-read w set number bytes c e = was-read-by w set number bytes (is_implemented (record { set = set; number = number; carried = Raw bytes })) c refl e
+pub was-read : (p : Profile) (w : Widths) (set number : ℕ) (bytes : List ℕ) (c : Command) → read_as p w set number bytes ≡ Ok c → WasRead p set number c
+was-read p w set number bytes c e = was-read-by p w set number bytes (is_answered p (record { set = set; number = number; carried = Raw bytes })) c refl e
 
 -- ---- a command that was carried out or refused
 
@@ -192,9 +194,9 @@ done-refused-by m w d error (Err x) e =
       handshaken = refl;
     })
 
-pub done-refused : {S : Type 0} (m : Meaning S) (d : Debuggee S) (w : Widths) (set number : ℕ) (body : List ℕ) (error : ErrorCode) → Err error ≡ asks (command_read w set number body)
-    → IsDone w (carried_out m d.settings d.moment (command_read w set number body)) (visits_read m d.settings d.moment (command_read w set number body) d.visits) d d (record { sent = sent.Short (reply.Refused error); dies = false; closes = false })
-done-refused m d w set number body error e = done-refused-by m w d error (command_read w set number body) e
+pub done-refused : {S : Type 0} (m : Meaning S) (d : Debuggee S) (w : Widths) (set number : ℕ) (body : List ℕ) (error : ErrorCode) → Err error ≡ asks (read_as d.settings.profile w set number body)
+    → IsDone w (carried_out m d.settings d.moment (read_as d.settings.profile w set number body)) (visits_read m d.settings d.moment (read_as d.settings.profile w set number body) d.visits) d d (record { sent = sent.Short (reply.Refused error); dies = false; closes = false })
+done-refused m d w set number body error e = done-refused-by m w d error (read_as d.settings.profile w set number body) e
 
 -- it is carried out
 pub record HasEnding (a : code.Action.Action) (done : Done) : Type 0 where
@@ -207,9 +209,9 @@ carried-shaken m settings now c a h =
     ap (λ (b : Bool). carried_by m settings now c a (raises_counts a && not b)) h
     ∙ elim (raises_counts a) as (λ (x : Bool). carried_by m settings now c a (x && not true) ≡ does m settings now c a) [ true ↦ refl | false ↦ refl ]
 
-did-done : {S : Type 0} (m : Meaning S) (d new : Debuggee S) (a : code.Action.Action) (c : Command) (done : Done) → is_implemented c ≡ true → action_meaning a ≡ action_of c
-    → HasEnding a done → d.moment.state.handshaken ≡ true → Did m c d new done.sent → IsDone (m.sizes d.moment.machine) (effect_by m d.settings d.moment c (is_implemented c))
-    (visits_carried d.moment (action_of c) (effect_by m d.settings d.moment c (is_implemented c)) d.visits) d new done
+did-done : {S : Type 0} (m : Meaning S) (d new : Debuggee S) (a : code.Action.Action) (c : Command) (done : Done) → is_answered d.settings.profile c ≡ true → action_meaning a ≡ action_of c
+    → HasEnding a done → d.moment.state.handshaken ≡ true → Did m c d new done.sent → IsDone (m.sizes d.moment.machine) (effect_by m d.settings d.moment c (is_answered d.settings.profile c))
+    (visits_carried d.moment (action_of c) (effect_by m d.settings d.moment c (is_answered d.settings.profile c)) d.visits) d new done
 did-done m d new a c done impl same ends shaken did =
     let on : carried m d.settings d.moment c (action_of c) ≡ does m d.settings d.moment c (action_of c) = carried-shaken m d.settings d.moment c (action_of c) shaken in
     let e = does m d.settings d.moment c (action_of c) in
@@ -226,7 +228,7 @@ did-done m d new a c done impl same ends shaken did =
     })
 
 done-carried-by : {S : Type 0} (m : Meaning S) (d new : Debuggee S) (a : code.Action.Action) (done : Done) (read : Result Command ErrorCode)
-    → ((c : Command) → read ≡ Ok c → is_implemented c ≡ true) → Ok (asking a) ≡ asks read → HasEnding a done → d.moment.state.handshaken ≡ true → ((c : Command) → asking a ≡ asking_of c → Did m c d new done.sent)
+    → ((c : Command) → read ≡ Ok c → is_answered d.settings.profile c ≡ true) → Ok (asking a) ≡ asks read → HasEnding a done → d.moment.state.handshaken ≡ true → ((c : Command) → asking a ≡ asking_of c → Did m c d new done.sent)
     → IsDone (m.sizes d.moment.machine) (effect_read m d read) (visits_read m d.settings d.moment read d.visits) d new done
 done-carried-by m d new a done (Ok c) impl e ends shaken did =
     let same : asking a ≡ asking_of c = asking-same (asking a) (asking_of c) e in
@@ -234,10 +236,10 @@ done-carried-by m d new a done (Ok c) impl e ends shaken did =
 done-carried-by m d new a done (Err x) impl e ends shaken did = absurd cc
 
 pub done-carried : {S : Type 0} (m : Meaning S) (d new : Debuggee S) (set number : ℕ) (body : List ℕ) (a : code.Action.Action) (done : Done)
-    → Ok (asking a) ≡ asks (command_read (m.sizes d.moment.machine) set number body) → HasEnding a done → d.moment.state.handshaken ≡ true → ((c : Command) → asking a ≡ asking_of c → Did m c d new done.sent)
-    → IsDone (m.sizes d.moment.machine) (carried_out m d.settings d.moment (command_read (m.sizes d.moment.machine) set number body)) (visits_read m d.settings d.moment (command_read (m.sizes d.moment.machine) set number body) d.visits) d new done
+    → Ok (asking a) ≡ asks (read_as d.settings.profile (m.sizes d.moment.machine) set number body) → HasEnding a done → d.moment.state.handshaken ≡ true → ((c : Command) → asking a ≡ asking_of c → Did m c d new done.sent)
+    → IsDone (m.sizes d.moment.machine) (carried_out m d.settings d.moment (read_as d.settings.profile (m.sizes d.moment.machine) set number body)) (visits_read m d.settings d.moment (read_as d.settings.profile (m.sizes d.moment.machine) set number body) d.visits) d new done
 done-carried m d new set number body a done e ends shaken did =
-    done-carried-by m d new a done (command_read (m.sizes d.moment.machine) set number body) (λ (c : Command). λ read. (was-read (m.sizes d.moment.machine) set number body c read).implemented) e ends shaken did
+    done-carried-by m d new a done (read_as d.settings.profile (m.sizes d.moment.machine) set number body) (λ (c : Command). λ read. (was-read d.settings.profile (m.sizes d.moment.machine) set number body c read).implemented) e ends shaken did
 
 -- Exit and Dispose close
 pub closes-by : (a : Action) (b : Bool) → (is_dispose a ≡ true → b ≡ true) → (is_exit a ≡ true → b ≡ true) → (is_dispose a ≡ false → is_exit a ≡ false → b ≡ false) → b ≡ (is_exit a || is_dispose a)
@@ -302,16 +304,16 @@ sends-are {S = S} limit now w id e visits d mid done h fits =
 
 -- a command was handled, which was taken off an end that is established
 command-handled : {S : Type 0} (m : Meaning S) (d mid new : Debuggee S) (header : Header) (body : List ℕ) (set number : ℕ) (end after : End) (done : Done) → header.kind ≡ kind.Command set number → end.phase ≡ Established
-    → IsDone (m.sizes d.moment.machine) (carried_out m d.settings d.moment (command_read (m.sizes d.moment.machine) set number body)) (visits_read m d.settings d.moment (command_read (m.sizes d.moment.machine) set number body) d.visits) d mid done → d.moment.state.handshaken ≡ true
+    → IsDone (m.sizes d.moment.machine) (carried_out m d.settings d.moment (read_as d.settings.profile (m.sizes d.moment.machine) set number body)) (visits_read m d.settings d.moment (read_as d.settings.profile (m.sizes d.moment.machine) set number body) d.visits) d mid done → d.moment.state.handshaken ≡ true
     → new ≡ after_deaths done.dies mid
     → after ≡ closed_where done.closes (with_enqueued (stream (reply_of (m.sizes d.moment.machine) header.id done.sent ∷ deaths (m.sizes d.moment.machine) mid.moment.state.next_packet done.dies)) end)
     → AreSendable end.limits.packet (reply_of (m.sizes d.moment.machine) header.id done.sent ∷ deaths (m.sizes d.moment.machine) mid.moment.state.next_packet done.dies)
     → IsHandled m (Packet header body) d new end after
 command-handled {S = S} m d mid new header body set number end after done is session h shaken new-is after-is fits =
     let w = m.sizes d.moment.machine in
-    let e = carried_out m d.settings d.moment (command_read w set number body) in
+    let e = carried_out m d.settings d.moment (read_as d.settings.profile w set number body) in
     let now = stands d.moment Established in
-    let visits = visits_read m d.settings d.moment (command_read w set number body) d.visits in
+    let visits = visits_read m d.settings d.moment (read_as d.settings.profile w set number body) d.visits in
     let debuggee : new ≡ visiting visits (debuggee_after (replies_by now w header.id e e.dies) d) = new-is ∙ (rw (h.dies, h.after) refl ∙ died now w header.id e e.dies visits d) in
     let same : end ≡ in_phase Established end = ap (λ (p : Phase). in_phase p end) session in
     handled-kind m header body (kind.Command set number) d new end after is (record {
@@ -325,7 +327,7 @@ command-handled {S = S} m d mid new header body set number end after done is ses
 
 -- the same, where the widths have a name of their own
 command-replied : {S : Type 0} (m : Meaning S) (d mid new : Debuggee S) (header : Header) (body : List ℕ) (set number : ℕ) (end after : End) (done : Done) (w : Widths) → header.kind ≡ kind.Command set number → end.phase ≡ Established
-    → IsDone (m.sizes d.moment.machine) (carried_out m d.settings d.moment (command_read (m.sizes d.moment.machine) set number body)) (visits_read m d.settings d.moment (command_read (m.sizes d.moment.machine) set number body) d.visits) d mid done → d.moment.state.handshaken ≡ true
+    → IsDone (m.sizes d.moment.machine) (carried_out m d.settings d.moment (read_as d.settings.profile (m.sizes d.moment.machine) set number body)) (visits_read m d.settings d.moment (read_as d.settings.profile (m.sizes d.moment.machine) set number body) d.visits) d mid done → d.moment.state.handshaken ≡ true
     → new ≡ after_deaths done.dies mid → w ≡ m.sizes d.moment.machine
     → after ≡ closed_where done.closes (with_enqueued (stream (reply_of w header.id done.sent ∷ deaths w mid.moment.state.next_packet done.dies)) end)
     → end.limits ≡ d.settings.limits → least_packet_limit ≤ end.limits.packet
@@ -512,7 +514,7 @@ turns-wanting m old new message used result front is needs same =
 
 -- what is told of a command that was carried out
 pub told-command : {S : Type 0} (m : Meaning S) (old : Target S) (header : Header) (body : List ℕ) (id set number : ℕ) (error : ErrorCode) → header.kind ≡ kind.Command set number → id ≡ header.id
-    → error ≡ error_of (carried_out m old.settings old.moment (command_read (m.sizes old.moment.machine) set number body)).answer
+    → error ≡ error_of (carried_out m old.settings old.moment (read_as old.settings.profile (m.sizes old.moment.machine) set number body)).answer
     → turn.Replied id error ≡ told_of_packet m old header.id header.kind body
 told-command m old header body id set number error is same tells =
     subst (λ (x : PacketKind). turn.Replied id error ≡ told_of_packet m old header.id x body) (sym is)

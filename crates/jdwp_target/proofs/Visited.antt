@@ -16,7 +16,7 @@ use Rattle.jdwp_layout.specs.declared.answer.Answer.TheVariants.{Data, Error}
 use Rattle.jdwp_machine.specs.Meanings.{Meaning}
 use Rattle.jdwp_action.specs.Actions
 use Rattle.jdwp_action.specs.Actions.{Action, Carried, Command, action_of}
-use Rattle.jdwp_action.specs.CommandReads.{command_read}
+use Rattle.jdwp_debuggee.specs.Answering.{read_as}
 use Rattle.jdwp_debuggee.specs.Effects.{Effect, effect}
 use Rattle.jdwp_debuggee.specs.Facts.{is_data}
 use Rattle.jdwp_debuggee.specs.Settings.{Settings}
@@ -74,12 +74,12 @@ plain-deferrable : (c : Command) → is_deferrable c.set ≡ true → moves_all 
 plain-deferrable c h = plain-at c (c.set == 2) (c.set == 6) refl refl h
 
 deferred-plain : {S : Type 0} (m : Meaning S) (v : Target S) (header : Header) (body : List ℕ) (set number : ℕ) (c : Command) → header.kind ≡ kind.Command set number
-    → command_read (m.sizes v.moment.machine) set number body ≡ Ok c → defers (full_standing v) (Packet header body) ≡ true → moves_all (action_of c) ≡ false
+    → read_as v.settings.profile (m.sizes v.moment.machine) set number body ≡ Ok c → defers (full_standing v) (Packet header body) ≡ true → moves_all (action_of c) ≡ false
 deferred-plain m v header body set number c is read deferred =
     let command = (put-off-kind (full_standing v) header.kind deferred).command in
     let same : kind.Command command.0 command.1 ≡ kind.Command set number = sym command.2 ∙ is in
     let sets : command.0 ≡ set = cc in
-    let was = was-read (m.sizes v.moment.machine) set number body c read in
+    let was = was-read v.settings.profile (m.sizes v.moment.machine) set number body c read in
     plain-deferrable c (subst (λ (n : ℕ). is_deferrable n ≡ true) (sets ∙ sym was.set) command.3)
 
 no-both : (b : Bool) → b ≡ true → b ≡ false → ⊥
@@ -87,13 +87,13 @@ no-both b on off = cc
 
 -- a command that moves counts is handled at once
 moves-at-once : {S : Type 0} (m : Meaning S) (v : Target S) (header : Header) (body : List ℕ) (set number : ℕ) (c : Command) (b : Bool) → header.kind ≡ kind.Command set number
-    → command_read (m.sizes v.moment.machine) set number body ≡ Ok c → moves_all (action_of c) ≡ true → defers (full_standing v) (Packet header body) ≡ b → b ≡ false
+    → read_as v.settings.profile (m.sizes v.moment.machine) set number body ≡ Ok c → moves_all (action_of c) ≡ true → defers (full_standing v) (Packet header body) ≡ b → b ≡ false
 moves-at-once m v header body set number c true is read all deferred = absurd (no-both (moves_all (action_of c)) all (deferred-plain m v header body set number c is read deferred))
 moves-at-once m v header body set number c false is read all deferred = refl
 
 -- the visits after a command that was read, and handled at once, or put off where it leaves them
 packet-visits : {S : Type 0} (m : Meaning S) (v : Target S) (header : Header) (body : List ℕ) (set number : ℕ) (r : Result Command ErrorCode) (n : ℕ) → header.kind ≡ kind.Command set number
-    → command_read (m.sizes v.moment.machine) set number body ≡ r → visits_read m v.settings v.moment r v.visits ≡ n → visits_packet m v.settings v.moment header.kind body v.visits ≡ n
+    → read_as v.settings.profile (m.sizes v.moment.machine) set number body ≡ r → visits_read m v.settings v.moment r v.visits ≡ n → visits_packet m v.settings v.moment header.kind body v.visits ≡ n
 packet-visits m v header body set number r n is read same =
     ap (λ (k : PacketKind). visits_packet m v.settings v.moment k body v.visits) is ∙ (ap (λ (x : Result Command ErrorCode). visits_read m v.settings v.moment x v.visits) read ∙ same)
 
@@ -106,7 +106,7 @@ move-visits m v message n b at_once same = rw at_once same
 
 -- those that are read and leave the visits
 read-stays : {S : Type 0} (m : Meaning S) (v : Target S) (header : Header) (body : List ℕ) (used set number : ℕ) (r : Result Command ErrorCode) → header.kind ≡ kind.Command set number
-    → command_read (m.sizes v.moment.machine) set number body ≡ r → visits_read m v.settings v.moment r v.visits ≡ v.visits → (with_handled m (Packet header body) used v).visits ≡ v.visits
+    → read_as v.settings.profile (m.sizes v.moment.machine) set number body ≡ r → visits_read m v.settings v.moment r v.visits ≡ v.visits → (with_handled m (Packet header body) used v).visits ≡ v.visits
 read-stays m v header body used set number r is read same =
     stay-visits m v (Packet header body) (defers (full_standing v) (Packet header body)) (packet-visits m v header body set number r v.visits is read same)
 
@@ -115,7 +115,7 @@ at-once-threads : {S : Type 0} (m : Meaning S) (v : Target S) (message : Message
 at-once-threads m v message b at_once = rw at_once refl
 
 read-threads : {S : Type 0} (m : Meaning S) (v : Target S) (header : Header) (body : List ℕ) (used set number : ℕ) (c : Command) → defers (full_standing v) (Packet header body) ≡ false → header.kind ≡ kind.Command set number
-    → command_read (m.sizes v.moment.machine) set number body ≡ Ok c → (with_handled m (Packet header body) used v).moment.state.threads ≡ (effect m v.settings v.moment c).after.state.threads
+    → read_as v.settings.profile (m.sizes v.moment.machine) set number body ≡ Ok c → (with_handled m (Packet header body) used v).moment.state.threads ≡ (effect m v.settings v.moment c).after.state.threads
 read-threads {S = S} m v header body used set number c at_once is read =
     let now = established (standing v) in
     let w = m.sizes v.moment.machine in
@@ -125,10 +125,10 @@ read-threads {S = S} m v header body used set number c at_once is read =
     ∙ replied-threads now w header.id (effect m v.settings v.moment c) (effect m v.settings v.moment c).dies))
 
 -- a deferred command that is released
-deferrable-read : {S : Type 0} (m : Meaning S) (v : Target S) (set number : ℕ) (body : List ℕ) (r : Result Command ErrorCode) → command_read (m.sizes v.moment.machine) set number body ≡ r → is_deferrable set ≡ true
+deferrable-read : {S : Type 0} (m : Meaning S) (v : Target S) (set number : ℕ) (body : List ℕ) (r : Result Command ErrorCode) → read_as v.settings.profile (m.sizes v.moment.machine) set number body ≡ r → is_deferrable set ≡ true
     → visits_read m v.settings v.moment r v.visits ≡ v.visits
 deferrable-read m v set number body (Ok c) read may =
-    let was = was-read (m.sizes v.moment.machine) set number body c read in
+    let was = was-read v.settings.profile (m.sizes v.moment.machine) set number body c read in
     let e = effect m v.settings v.moment c in
     stays (action_of c) e.answer v.moment.state.threads e.after.state.threads v.visits (plain-deferrable c (subst (λ (n : ℕ). is_deferrable n ≡ true) (sym was.set) may))
 deferrable-read m v set number body (Err e) read may = refl
@@ -137,7 +137,7 @@ deferred-visits : {S : Type 0} (m : Meaning S) (v : Target S) (message : Message
 deferred-visits m v Handshake command = absurd command
 deferred-visits m v (Packet header body) (set, number, is, may) =
     let w = m.sizes v.moment.machine in
-    packet-visits m v header body set number (command_read w set number body) v.visits is refl (deferrable-read m v set number body (command_read w set number body) refl may)
+    packet-visits m v header body set number (read_as v.settings.profile w set number body) v.visits is refl (deferrable-read m v set number body (read_as v.settings.profile w set number body) refl may)
 
 released-visits : {S : Type 0} (m : Meaning S) (v : Target S) (place : ℕ) (o : Option (Message × List Message)) → released_at place v.deferred ≡ o → AllByRecursion MayBeDeferred v.deferred
     → visits_released m v.settings v.moment o v.visits ≡ v.visits

@@ -15,7 +15,7 @@ use Rattle.jdwp_event.specs.Requests.{Request}
 use Rattle.jdwp_machine.specs.Meanings.{Meaning}
 use Rattle.jdwp_action.specs.Actions.{Action, Command, action_of}
 use Rattle.jdwp_action.specs.AnswerPackets.{error_of}
-use Rattle.jdwp_action.specs.CommandReads.{command_read}
+use Rattle.jdwp_debuggee.specs.Answering.{read_as}
 use Rattle.jdwp_debuggee.specs.Answers.{int_answer}
 use Rattle.jdwp_debuggee.specs.State.{count_of, count_or_zero}
 use Rattle.jdwp_target.specs.declared.target.Stepped.{Stepped}
@@ -76,7 +76,7 @@ pub record Answers {S : Type 0} (m : Meaning S) (action : Action) (old : Target 
   pub number : ℕ
   pub is_command : header.kind ≡ kind.Command set number
   pub command : Command
-  pub reads : command_read (m.sizes old.moment.machine) set number body ≡ Ok command
+  pub reads : read_as old.settings.profile (m.sizes old.moment.machine) set number body ≡ Ok command
   pub asks : action_of command ≡ action
   pub answered : result ≡ Ok (Replied header.id NONE)
 

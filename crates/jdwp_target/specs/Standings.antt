@@ -12,7 +12,7 @@ use Rattle.jdwp_end.specs.Ends.{is_open_phase}
 use Rattle.jdwp_event.specs.Composites.{CompositeMeaning, vm_death}
 use Rattle.jdwp_machine.specs.Meanings.{Meaning}
 use Rattle.jdwp_action.specs.Actions.{Command}
-use Rattle.jdwp_action.specs.CommandReads.{command_read}
+use Rattle.jdwp_debuggee.specs.Answering.{read_as}
 use Rattle.jdwp_debuggee.specs.Effects.{Effect, effect, refused}
 use Rattle.jdwp_debuggee.specs.Settings.{Settings}
 use Rattle.jdwp_debuggee.specs.State.{Moment, reset, with_packet}
@@ -89,7 +89,7 @@ replies now w id e = replies_by now w id e e.dies
 -- a reply that comes to a target is ignored
 abbrev pub handles_packet : {S : Type 0} → Meaning S → Settings → Standing S → ℕ → PacketKind → List ℕ → Reaction S
 handles_packet m settings now id (kind.Command set number) body =
-    replies now (m.sizes now.moment.machine) id (carried_out m settings now.moment (command_read (m.sizes now.moment.machine) set number body))
+    replies now (m.sizes now.moment.machine) id (carried_out m settings now.moment (read_as settings.profile (m.sizes now.moment.machine) set number body))
 handles_packet m settings now id (kind.Reply error) body = silent now
 
 -- a message, in an established session

@@ -11,7 +11,7 @@ use Rattle.jdwp_end.specs.Ends.{End, closed_end, front_of}
 use Rattle.jdwp_event.specs.Composites.{vm_death}
 use Rattle.jdwp_machine.specs.Meanings.{Meaning}
 use Rattle.jdwp_action.specs.AnswerPackets.{EncodesAnswer}
-use Rattle.jdwp_action.specs.CommandReads.{command_read}
+use Rattle.jdwp_debuggee.specs.Answering.{read_as}
 use Rattle.jdwp_debuggee.specs.Debuggees.{Debuggee, at_moment, visiting, with_state}
 use Rattle.jdwp_debuggee.specs.Effects.{Effect}
 use Rattle.jdwp_debuggee.specs.Sending.{IsSent, sent_bytes, sent_error}
@@ -53,9 +53,9 @@ pub record IsDone {S : Type 0} (w : Widths) (e : Effect S) (visits : ℕ) (old n
 
 -- A command of this set and number with these data was read, and carried out or refused. What it is answered is encoded by the bytes that are sent.
 pub record IsCarriedOut {S : Type 0} (m : Meaning S) (old new : Debuggee S) (set number : ℕ) (body : List ℕ) (done : Done) : Type 0 where
-  pub becomes : IsDone (m.sizes old.moment.machine) (carried_out m old.settings old.moment (command_read (m.sizes old.moment.machine) set number body))
-      (visits_read m old.settings old.moment (command_read (m.sizes old.moment.machine) set number body) old.visits) old new done
-  pub encoded : EncodesAnswer (m.sizes old.moment.machine) set number (carried_out m old.settings old.moment (command_read (m.sizes old.moment.machine) set number body)).answer
+  pub becomes : IsDone (m.sizes old.moment.machine) (carried_out m old.settings old.moment (read_as old.settings.profile (m.sizes old.moment.machine) set number body))
+      (visits_read m old.settings old.moment (read_as old.settings.profile (m.sizes old.moment.machine) set number body) old.visits) old new done
+  pub encoded : EncodesAnswer (m.sizes old.moment.machine) set number (carried_out m old.settings old.moment (read_as old.settings.profile (m.sizes old.moment.machine) set number body)).answer
 
 -- The command in a packet of this kind, with these data, was carried out or refused, and so it was for the command of this id.
 abbrev pub IsAnswered : {S : Type 0} → Meaning S → Debuggee S → Debuggee S → ℕ → PacketKind → List ℕ → ℕ → Done → Type 0
@@ -70,7 +70,7 @@ puts_off defers (kind.Reply error) = false
 -- a command for which memory may be wanted, as the debuggee stands
 abbrev pub IsWanting : {S : Type 0} → Meaning S → Debuggee S → PacketKind → List ℕ → Type 0
 IsWanting m d k body =
-    (set : ℕ) × (number : ℕ) × (k ≡ kind.Command set number) × MayWantAsRead m d.settings d.moment (command_read (m.sizes d.moment.machine) set number body)
+    (set : ℕ) × (number : ℕ) × (k ≡ kind.Command set number) × MayWantAsRead m d.settings d.moment (read_as d.settings.profile (m.sizes d.moment.machine) set number body)
 
 -- what is sent for a command, as the reply to the command of this id
 abbrev pub reply_of : Widths → ℕ → Sent → Message

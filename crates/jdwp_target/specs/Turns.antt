@@ -6,7 +6,7 @@ use Rattle.jdwp_wire.specs.declared.packet.PacketKind.TheVariants as kind
 use Rattle.jdwp_end.specs.Ends.{is_established, is_paused}
 use Rattle.jdwp_event.specs.Composites.{CompositeMeaning}
 use Rattle.jdwp_machine.specs.Meanings.{Meaning}
-use Rattle.jdwp_action.specs.CommandReads.{command_read}
+use Rattle.jdwp_debuggee.specs.Answering.{read_as}
 use Rattle.jdwp_action.specs.AnswerPackets.{EncodesAnswer, error_of}
 use Rattle.jdwp_debuggee.specs.StepParts.{is_ready}
 use Rattle.jdwp_debuggee.specs.Steps.{Step, may_step, occurs, start_event}
@@ -28,7 +28,7 @@ use Rattle.jdwp_target.specs.Targets.{Target, full_standing, lost_target, with_h
 -- what is told of a message that is handled
 abbrev pub told_of_packet : {S : Type 0} → Meaning S → Target S → ℕ → PacketKind → List ℕ → Turn
 told_of_packet m old id (kind.Command set number) body =
-    Replied id (error_of (carried_out m old.settings old.moment (command_read (m.sizes old.moment.machine) set number body)).answer)
+    Replied id (error_of (carried_out m old.settings old.moment (read_as old.settings.profile (m.sizes old.moment.machine) set number body)).answer)
 told_of_packet m old id (kind.Reply error) body = Ignored
 
 abbrev pub told_of : {S : Type 0} → Meaning S → Target S → Message → Turn
@@ -43,7 +43,7 @@ told_where m old (Packet header body) false = told_of_packet m old header.id hea
 
 -- the messages that may call for memory where they are handled: the commands for which the debuggee may want it, as it stands
 abbrev pub kind_needs_memory : {S : Type 0} → Meaning S → Target S → PacketKind → List ℕ → Type 0
-kind_needs_memory m old (kind.Command set number) body = MayWantAsRead m old.settings old.moment (command_read (m.sizes old.moment.machine) set number body)
+kind_needs_memory m old (kind.Command set number) body = MayWantAsRead m old.settings old.moment (read_as old.settings.profile (m.sizes old.moment.machine) set number body)
 kind_needs_memory m old (kind.Reply error) body = ⊥
 
 abbrev pub NeedsMemoryToHandle : {S : Type 0} → Meaning S → Target S → Message → Type 0
@@ -80,7 +80,7 @@ EncodesStart m old false = IsEncoded (m.sizes old.moment.machine) (Some (start_e
 
 abbrev pub EncodesByKind : {S : Type 0} → Meaning S → Target S → PacketKind → List ℕ → Type 0
 EncodesByKind m old (kind.Command set number) body =
-    EncodesAnswer (m.sizes old.moment.machine) set number (carried_out m old.settings old.moment (command_read (m.sizes old.moment.machine) set number body)).answer
+    EncodesAnswer (m.sizes old.moment.machine) set number (carried_out m old.settings old.moment (read_as old.settings.profile (m.sizes old.moment.machine) set number body)).answer
 EncodesByKind m old (kind.Reply error) body = ⊤
 
 abbrev pub EncodesFor : {S : Type 0} → Meaning S → Target S → Message → Type 0

@@ -8,7 +8,7 @@ use Rattle.jdwp_event.specs.Composites.{CompositeMeaning, POLICY_ALL}
 use Rattle.jdwp_machine.specs.Meanings.{Meaning}
 use Rattle.jdwp_action.specs.Actions
 use Rattle.jdwp_action.specs.Actions.{Action, Command, action_of}
-use Rattle.jdwp_action.specs.CommandReads.{command_read}
+use Rattle.jdwp_debuggee.specs.Answering.{read_as}
 use Rattle.jdwp_debuggee.specs.Effects.{effect}
 use Rattle.jdwp_debuggee.specs.Facts.{is_data}
 use Rattle.jdwp_debuggee.specs.Settings.{Settings}
@@ -36,16 +36,16 @@ pub record VisitsWhatTurns {S : Type 0} (m : Meaning S) : Type 0 where
   pub deferring : (v : Target S) (deferring : Bool) → (with_deferring deferring v).visits ≡ v.visits
   pub released : (v : Target S) (place : ℕ) → DefersFew (full_standing v) → (with_release m place v).visits ≡ v.visits
   pub moved : (v : Target S) (header : Header) (body : List ℕ) (used set number : ℕ) (c : Command) → header.kind ≡ kind.Command set number
-      → command_read (m.sizes v.moment.machine) set number body ≡ Ok c → moves_all (action_of c) ≡ true → is_data (effect m v.settings v.moment c).answer ≡ true
+      → read_as v.settings.profile (m.sizes v.moment.machine) set number body ≡ Ok c → moves_all (action_of c) ≡ true → is_data (effect m v.settings v.moment c).answer ≡ true
       → (with_handled m (Packet header body) used v).visits ≡ turned v.moment.state.threads (with_handled m (Packet header body) used v).moment.state.threads
   pub refused : (v : Target S) (header : Header) (body : List ℕ) (used set number : ℕ) (c : Command) → header.kind ≡ kind.Command set number
-      → command_read (m.sizes v.moment.machine) set number body ≡ Ok c → is_data (effect m v.settings v.moment c).answer ≡ false
+      → read_as v.settings.profile (m.sizes v.moment.machine) set number body ≡ Ok c → is_data (effect m v.settings v.moment c).answer ≡ false
       → (with_handled m (Packet header body) used v).visits ≡ v.visits
   pub other : (v : Target S) (header : Header) (body : List ℕ) (used set number : ℕ) (c : Command) → header.kind ≡ kind.Command set number
-      → command_read (m.sizes v.moment.machine) set number body ≡ Ok c → moves_all (action_of c) ≡ false
+      → read_as v.settings.profile (m.sizes v.moment.machine) set number body ≡ Ok c → moves_all (action_of c) ≡ false
       → (with_handled m (Packet header body) used v).visits ≡ v.visits
   pub unread : (v : Target S) (header : Header) (body : List ℕ) (used set number : ℕ) (e : ErrorCode) → header.kind ≡ kind.Command set number
-      → command_read (m.sizes v.moment.machine) set number body ≡ Err e → (with_handled m (Packet header body) used v).visits ≡ v.visits
+      → read_as v.settings.profile (m.sizes v.moment.machine) set number body ≡ Err e → (with_handled m (Packet header body) used v).visits ≡ v.visits
   pub ignored : (v : Target S) (header : Header) (body : List ℕ) (used : ℕ) (e : ErrorCode) → header.kind ≡ kind.Reply e
       → (with_handled m (Packet header body) used v).visits ≡ v.visits
   pub started : (v : Target S) (used : ℕ) → v.moment.state.handshaken ≡ false → v.settings.start_all ≡ true

@@ -6,7 +6,7 @@ use Rattle.jdwp_wire.specs.declared.packet.PacketKind.{PacketKind}
 use Rattle.jdwp_wire.specs.declared.packet.PacketKind.TheVariants as kind
 use Rattle.jdwp_machine.specs.Meanings.{Meaning}
 use Rattle.jdwp_action.specs.Actions.{Command, action_of}
-use Rattle.jdwp_action.specs.CommandReads.{command_read}
+use Rattle.jdwp_debuggee.specs.Answering.{read_as}
 use Rattle.jdwp_debuggee.specs.Effects.{effect}
 use Rattle.jdwp_debuggee.specs.Settings.{Settings}
 use Rattle.jdwp_debuggee.specs.State.{Moment, State}
@@ -23,7 +23,7 @@ visits_read m settings now (Ok c) visits = visits_carried now (action_of c) (eff
 visits_read m settings now (Err e) visits = visits
 
 abbrev pub visits_packet : {S : Type 0} → Meaning S → Settings → Moment S → PacketKind → List ℕ → ℕ → ℕ
-visits_packet m settings now (kind.Command set number) body visits = visits_read m settings now (command_read (m.sizes now.machine) set number body) visits
+visits_packet m settings now (kind.Command set number) body visits = visits_read m settings now (read_as settings.profile (m.sizes now.machine) set number body) visits
 visits_packet m settings now (kind.Reply error) body visits = visits
 
 -- after a message

@@ -16,7 +16,7 @@ ghost use Rattle.jdwp_wire.specs.Streams.{AreSendable, Packet, Whole, message_by
 ghost use Rattle.jdwp_wire.specs.Limits.{least_packet_limit, most_packet_limit};
 ghost use Rattle.jdwp_layout.specs.Meanings.{ScalarMeaning};
 ghost use Rattle.jdwp_action.specs.Actions as asked;
-ghost use Rattle.jdwp_action.specs.CommandReads.{command_read};
+ghost use Rattle.jdwp_debuggee.specs.Answering.{read_as};
 ghost use Rattle.jdwp_debuggee.specs.Askings.{asked_meaning, asks, is_short};
 ghost use Rattle.jdwp_action.specs.AnswerPackets.{EncodesAnswer};
 ghost use Rattle.jdwp_debuggee.specs.Sending.{is_short_asked, sent_bytes, sent_error};
@@ -265,7 +265,7 @@ fn handle_front<M: Machine>(
     ensures wants { IfErr result (λ _. (header : Header) (body : List ℕ)
         → front_of end.old ≡ Whole (Packet header body) used
         → MayWantAsRead M.meaning debuggee.old.settings debuggee.old.moment
-        (command_read sizes.now command.0 command.1 body)) }
+        (read_as debuggee.old.settings.profile sizes.now command.0 command.1 body)) }
     ensures same { end.new ≡ end.old }
 {
     let (set, number) = command;
@@ -295,9 +295,9 @@ pub(crate) fn handle_command<M: Machine>(
     ensures ok { IfOk result (IsCarriedOut M.meaning debuggee.old debuggee.new set number body.now) }
     ensures err { OnErr result (debuggee.new ≡ debuggee.old) }
     ensures wants { IfErr result (λ _. MayWantAsRead M.meaning debuggee.old.settings
-        debuggee.old.moment (command_read sizes.now set number body.now)) }
+        debuggee.old.moment (read_as debuggee.old.settings.profile sizes.now set number body.now)) }
 {
-    let asked = match read_command(alloc, set, number, sizes, body) {
+    let asked = match read_command(alloc, debuggee.profile(), set, number, sizes, body) {
         Ok(asked) => asked,
         Err(NoMemory) => return refuse_unread(debuggee, alloc, set, number, sizes, body),
     };
@@ -318,12 +318,13 @@ fn refuse_unread<M: Machine>(
     body: &[u8],
 ) -> Result<Done, NoMemory>
     requires long { is_short set number ≡ false }
-    requires reads { ReadsData (command_read sizes.now set number body.now) }
+    requires reads { ReadsData (read_as debuggee.now.settings.profile sizes.now set number
+        body.now) }
     requires widths { sizes.now ≡ M.meaning.sizes debuggee.now.moment.machine }
     ensures ok { IfOk result (IsCarriedOut M.meaning debuggee.now debuggee.now set number
         body.now) }
     ensures wants { IfErr result (λ _. MayWantAsRead M.meaning debuggee.now.settings
-        debuggee.now.moment (command_read sizes.now set number body.now)) }
+        debuggee.now.moment (read_as debuggee.now.settings.profile sizes.now set number body.now)) }
 {
     match debuggee.own_refusal(alloc, set, number, sizes, body) {
         Some(error) => Ok(Done::refused(error)),
@@ -382,18 +383,18 @@ fn handle<M: Machine>(
 ) -> Result<Done, NoMemory>
     requires { debuggee.old.moment.state.handshaken ≡ true }
     ensures ok { IfOk result (λ done. (set number : ℕ) (body : List ℕ)
-        → asked_meaning asked ≡ asks (command_read (M.meaning.sizes debuggee.old.moment.machine) set
+        → asked_meaning asked ≡ asks (read_as debuggee.old.settings.profile (M.meaning.sizes debuggee.old.moment.machine) set
         number body) → IsDone (M.meaning.sizes debuggee.old.moment.machine)
         (carried_out M.meaning debuggee.old.settings debuggee.old.moment
-        (command_read (M.meaning.sizes debuggee.old.moment.machine) set number body))
+        (read_as debuggee.old.settings.profile (M.meaning.sizes debuggee.old.moment.machine) set number body))
         (visits_read M.meaning debuggee.old.settings debuggee.old.moment
-        (command_read (M.meaning.sizes debuggee.old.moment.machine) set number body)
+        (read_as debuggee.old.settings.profile (M.meaning.sizes debuggee.old.moment.machine) set number body)
         debuggee.old.visits) debuggee.old debuggee.new done) }
     ensures encoded { IfOk result (λ _. (set number : ℕ) (body : List ℕ)
-        → asked_meaning asked ≡ asks (command_read (M.meaning.sizes debuggee.old.moment.machine) set
+        → asked_meaning asked ≡ asks (read_as debuggee.old.settings.profile (M.meaning.sizes debuggee.old.moment.machine) set
         number body) → EncodesAnswer (M.meaning.sizes debuggee.old.moment.machine) set number
         (carried_out M.meaning debuggee.old.settings debuggee.old.moment
-        (command_read (M.meaning.sizes debuggee.old.moment.machine) set number body)).answer) }
+        (read_as debuggee.old.settings.profile (M.meaning.sizes debuggee.old.moment.machine) set number body)).answer) }
     ensures err { OnErr result (debuggee.new ≡ debuggee.old) }
     ensures memory { IfErr result (λ _. is_short_asked (asked_meaning asked) ≡ false) }
     ensures wants { IfErr result (λ _. MayWantAsked M.meaning debuggee.old.settings

@@ -33,7 +33,7 @@ pub use jdwp_event::{
 };
 
 // Machines that are debugged.
-pub use jdwp_machine::{Machine, Query};
+pub use jdwp_machine::{Machine, Profile, Query};
 pub use jdwp_script_machine::ScriptMachine;
 
 // The scripts that describe them, part by part, and their faults.

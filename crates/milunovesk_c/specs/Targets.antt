@@ -4,6 +4,7 @@ use Rattle.std.specs.Str.{IsUtf8}
 use Rattle.jdwp_wire.specs.FaultNumbers as frames
 use Rattle.jdwp_wire.specs.Limits.{standard_limits}
 use Rattle.jdwp_end.specs.Ends.{front_of}
+use Rattle.jdwp_machine.specs.declared.profile.Profile.TheVariants.{Standard}
 use Rattle.jdwp_debuggee.specs.Settings.{IsCountLimit}
 use Rattle.jdwp_debuggee.specs.State as spec
 use Rattle.jdwp_script.specs.ScriptFaultNumbers.{script_fault_number}
@@ -74,7 +75,7 @@ pub record HasStepped (thread : ℕ) (old : Target State) (result : ℕ) (out : 
 -- the target over this machine, with these options
 abbrev pub target_over : Bool → ℕ → State → Target State
 target_over start_all count_limit machine =
-    new_target (settings_at standard_limits (record { start_all = start_all; count_limit = count_limit })) (record { state = spec.new_state (script_meaning.live machine); machine = machine })
+    new_target (settings_at standard_limits (record { start_all = start_all; count_limit = count_limit; profile = Standard })) (record { state = spec.new_state (script_meaning.live machine); machine = machine })
 
 -- the machine of the script that these bytes are, with a target over it
 pub record MakesTarget (json : List ℕ) (start_all : Bool) (count_limit : ℕ) (new : Kept) : Type 0 where

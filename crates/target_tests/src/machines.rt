@@ -1,5 +1,6 @@
 //! Machine scripts, and the machines that run them: tests of `jdwp_script` and `jdwp_script_machine`, which call what anybody can call.
 mod answer_tests;
+mod class_tests;
 mod data_words;
 mod detail_tests;
 mod extreme_tests;

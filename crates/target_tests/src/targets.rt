@@ -5,6 +5,7 @@ mod engine_tests;
 mod example_tests;
 mod extreme_tests;
 mod falling;
+mod jdi_tests;
 mod limit_tests;
 mod many_tests;
 mod module_tests;

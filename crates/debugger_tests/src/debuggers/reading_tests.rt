@@ -3,7 +3,7 @@ use crate::asserts::{expect_same, expect_that};
 use jdwp_debuggee::{Action, ParsedCommand, read_command};
 use jdwp_event::Modifier;
 use jdwp_layout::{Scalar, layout_of, write};
-use jdwp_machine::Query;
+use jdwp_machine::{Profile, Query};
 use jdwp_value::{FrameId, ObjectId, Value};
 use jdwp_wire::IdSizes;
 use std::alloc::Global;
@@ -18,7 +18,7 @@ fn sizes(rt: &impl Abort) -> IdSizes {
 /// What is read of the command whose data are these bytes.
 fn asked(rt: &impl Abort, alloc: Global, (set, number): (u8, u8), hex: &str) -> ParsedCommand {
     let data = bytes(alloc, hex).expect(rt, "memory");
-    let asked = read_command(alloc, set, number, &sizes(rt), &data);
+    let asked = read_command(alloc, Profile::Standard, set, number, &sizes(rt), &data);
     asked.expect(rt, "memory")
 }
 

@@ -1,5 +1,5 @@
 use Rattle.std.proofs.Common.{ℕ, List, subst}
-use Rattle.jdwp_action.specs.CommandReads.{command_read}
+use Rattle.jdwp_debuggee.specs.Answering.{read_as}
 use Rattle.jdwp_debuggee.specs.Wants.{MayWantAsRead}
 use Rattle.jdwp_target.specs.TurnParts.{IsCarriedOut}
 use Rattle.jdwp_target.proofs.DeferredTurns.{err-also, ok-also}
@@ -18,7 +18,7 @@ returns-in-Some-clause-ok g c = ok-also c.handle_command.result _ _
 
 pub returns-in-Some-clause-wants : goal.returns-in-Some-clause-wants
 returns-in-Some-clause-wants g c = err-also c.handle_command.result _ _
-    (λ wanted wants header body front. subst (λ (bytes : List ℕ). MayWantAsRead g.M.Machine.meaning c.args.debuggee.now.settings c.args.debuggee.now.moment (command_read c.args.sizes.now c.args.command.0 c.args.command.1 bytes)) (c.in-Some.ensures header body front) wants)
+    (λ wanted wants header body front. subst (λ (bytes : List ℕ). MayWantAsRead g.M.Machine.meaning c.args.debuggee.now.settings c.args.debuggee.now.moment (read_as c.args.debuggee.now.settings.profile c.args.sizes.now c.args.command.0 c.args.command.1 bytes)) (c.in-Some.ensures header body front) wants)
     c.handle_command.ensures.wants
 
 pub returns-in-None-clause-ok : goal.returns-in-None-clause-ok
@@ -28,7 +28,7 @@ returns-in-None-clause-ok g c = ok-also c.handle_command-in-None.result _ _
 
 pub returns-in-None-clause-wants : goal.returns-in-None-clause-wants
 returns-in-None-clause-wants g c = err-also c.handle_command-in-None.result _ _
-    (λ wanted wants header body front. subst (λ (bytes : List ℕ). MayWantAsRead g.M.Machine.meaning c.args.debuggee.now.settings c.args.debuggee.now.moment (command_read c.args.sizes.now c.args.command.0 c.args.command.1 bytes)) (c.data_joined-body.ensures.body header body front) wants)
+    (λ wanted wants header body front. subst (λ (bytes : List ℕ). MayWantAsRead g.M.Machine.meaning c.args.debuggee.now.settings c.args.debuggee.now.moment (read_as c.args.debuggee.now.settings.profile c.args.sizes.now c.args.command.0 c.args.command.1 bytes)) (c.data_joined-body.ensures.body header body front) wants)
     c.handle_command-in-None.ensures.wants
 
 pub returns-in-None-clause-same : goal.returns-in-None-clause-same

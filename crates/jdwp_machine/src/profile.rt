@@ -1,0 +1,46 @@
+//! What a target is made for.
+ghost use Rattle.std.specs.Prelude.{◌≡◌};
+ghost use Rattle.jdwp_machine.specs.Profiles.{adds, is_added};
+
+use jdwp_layout::numbers::{REFERENCE_TYPE, THREAD_REFERENCE};
+
+/// The number of ReferenceType.SourceDebugExtension.
+pub const SOURCE_DEBUG_EXTENSION: u8 = 12;
+
+/// The number of ThreadReference.OwnedMonitors.
+pub const OWNED_MONITORS: u8 = 8;
+
+/// The number of ThreadReference.CurrentContendedMonitor.
+pub const CONTENDED_MONITOR: u8 = 9;
+
+/// What a target is made for: how much it answers beside what a target answers everywhere.
+#[derive(Clone, Copy, Debug, PartialEq, Eq)]
+pub enum Profile {
+    /// Nothing more.
+    Standard,
+    /// What debuggers over the Java Debug Interface ask for, as jdb and IDEs: a CLASS_UNLOAD may be requested and never happens, threads
+    /// and thread groups have a class, every class is in a module, and three starred commands are answered.
+    Jdi,
+}
+
+impl Profile {
+    /// Whether a starred command of this set and number is answered in the profile.
+    pub fn adds(self, set: u8, number: u8) -> bool
+        ensures { result ≡ adds self set number }
+    {
+        match self {
+            Profile::Standard => false,
+            Profile::Jdi => is_added(set, number),
+        }
+    }
+}
+
+fn is_added(set: u8, number: u8) -> bool
+    ensures { result ≡ is_added set number }
+{
+    match set {
+        REFERENCE_TYPE => number == SOURCE_DEBUG_EXTENSION,
+        THREAD_REFERENCE => number == OWNED_MONITORS || number == CONTENDED_MONITOR,
+        _ => false,
+    }
+}
