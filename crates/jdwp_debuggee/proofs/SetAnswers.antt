@@ -21,7 +21,7 @@ use Rattle.jdwp_machine.specs.Laws.{IsLawful, MayAnswer}
 use Rattle.jdwp_machine.specs.Meanings.{Meaning}
 use Rattle.jdwp_debuggee.specs.Effects.{set_by}
 use Rattle.jdwp_machine.specs.declared.profile.Profile.{Profile}
-use Rattle.jdwp_debuggee.specs.Refusals.{or_else, unless, is_kind, is_one_of, requestable, kind_refusal, kind_refusal_by, LAST_REQUEST, room_refusal, is_some_count, thread_refusal, class_refusal, class_refusal_by, signature_query, location_query, location_refusal, location_refusal_by, of_threads, without_locations, not_in, is_size, is_depth, exception_refusal, modifier_refusal, modifiers_refusal, is_location, is_step, shape_refusal, set_refusal}
+use Rattle.jdwp_debuggee.specs.Refusals.{or_else, unless, is_kind, is_one_of, requestable, kind_refusal, kind_refusal_by, LAST_REQUEST, room_refusal, is_some_count, thread_refusal, class_refusal, class_refusal_by, signature_query, location_query, location_refusal, location_refusal_by, of_threads, of_no_thread, of_no_place, without_locations, not_in, is_size, is_depth, exception_refusal, modifier_refusal, modifiers_refusal, is_location, is_step, shape_refusal, set_refusal}
 use Rattle.jdwp_action.specs.AnswerPackets.{EncodesAnswer}
 use Rattle.jdwp_action.specs.RowLayouts.{row_reply}
 use Rattle.jdwp_debuggee.specs.Settings.{Settings}
@@ -65,8 +65,8 @@ exception-error m s class false = class-error (m.query s (signature_query class)
 
 modifier-error : {S : Type 0} (m : Meaning S) → IsLawful m → (now : Moment S) → m.is_state now.machine → (byte : ℕ) (x : ModifierMeaning) → IsError (modifier_refusal m now byte x)
 modifier-error m law now is byte (Count n) = unless-error (not (int_lt n (pos 1))) INVALID_COUNT (omega arith)
-modifier-error m law now is byte (ThreadOnly t) = thread-error now.state t
-modifier-error m law now is byte (ClassOnly class) = or-error (class_refusal m now.machine class) (not_in of_threads byte) (class-error (m.query now.machine (signature_query class))) (in-error of_threads byte)
+modifier-error m law now is byte (ThreadOnly t) = or-error (thread_refusal now.state t) (not_in of_no_thread byte) (thread-error now.state t) (in-error of_no_thread byte)
+modifier-error m law now is byte (ClassOnly class) = or-error (class_refusal m now.machine class) (not_in of_no_place byte) (class-error (m.query now.machine (signature_query class))) (in-error of_no_place byte)
 modifier-error m law now is byte (ClassMatch pattern) = in-error of_threads byte
 modifier-error m law now is byte (ClassExclude pattern) = in-error of_threads byte
 modifier-error m law now is byte (LocationOnly location) =

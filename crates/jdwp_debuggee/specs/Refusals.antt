@@ -109,6 +109,13 @@ location_refusal m s location = location_refusal_by (m.query s (location_query l
 abbrev pub of_threads : List EventKind
 of_threads = kind.ThreadStart ∷ kind.ThreadDeath ∷ []
 
+-- kinds that no thread runs into, and kinds that are at no place in a class
+abbrev pub of_no_thread : List EventKind
+of_no_thread = kind.ClassUnload ∷ []
+
+abbrev pub of_no_place : List EventKind
+of_no_place = kind.ClassUnload ∷ of_threads
+
 -- kinds at which a location says nothing of its own
 abbrev pub without_locations : List EventKind
 without_locations =
@@ -131,8 +138,8 @@ exception_refusal m s class = if class == 0 then None else class_refusal m s cla
 
 abbrev pub modifier_refusal : {S : Type 0} → Meaning S → Moment S → ℕ → ModifierMeaning → Option ErrorCode
 modifier_refusal m now byte (Count n) = unless (not (int_lt n (pos 1))) INVALID_COUNT
-modifier_refusal m now byte (ThreadOnly t) = thread_refusal now.state t
-modifier_refusal m now byte (ClassOnly class) = or_else (class_refusal m now.machine class) (not_in of_threads byte)
+modifier_refusal m now byte (ThreadOnly t) = or_else (thread_refusal now.state t) (not_in of_no_thread byte)
+modifier_refusal m now byte (ClassOnly class) = or_else (class_refusal m now.machine class) (not_in of_no_place byte)
 modifier_refusal m now byte (ClassMatch pattern) = not_in of_threads byte
 modifier_refusal m now byte (ClassExclude pattern) = not_in of_threads byte
 modifier_refusal m now byte (LocationOnly location) = or_else (location_refusal m now.machine location) (not_in without_locations byte)

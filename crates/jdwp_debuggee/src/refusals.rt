@@ -56,6 +56,16 @@ static REQUESTABLE_BY_JDI: [EventKind; 10] = [
 /// The kinds of events that are of no class.
 static OF_THREADS: [EventKind; 2] = [EventKind::ThreadStart, EventKind::ThreadDeath];
 
+/// The kinds of events that no thread runs into.
+static OF_NO_THREAD: [EventKind; 1] = [EventKind::ClassUnload];
+
+/// The kinds of events that are at no place in a class.
+static OF_NO_PLACE: [EventKind; 3] = [
+    EventKind::ClassUnload,
+    EventKind::ThreadStart,
+    EventKind::ThreadDeath,
+];
+
 /// The kinds at which a location says nothing of its own.
 static WITHOUT_LOCATIONS: [EventKind; 7] = [
     EventKind::ThreadStart,
@@ -211,9 +221,12 @@ fn modifier_refusal<M: Machine>(
 {
     match modifier {
         Modifier::Count(count) => Ok(unless(*count >= 1, ErrorCode::INVALID_COUNT)),
-        Modifier::ThreadOnly(thread) => Ok(thread_refusal(threads, *thread)),
+        Modifier::ThreadOnly(thread) => Ok(or_else(
+            thread_refusal(threads, *thread),
+            not_in(&OF_NO_THREAD, byte),
+        )),
         Modifier::ClassOnly(class) => {
-            class_refusal(alloc, machine, *class, not_in(&OF_THREADS, byte))
+            class_refusal(alloc, machine, *class, not_in(&OF_NO_PLACE, byte))
         }
         Modifier::ClassMatch(_) | Modifier::ClassExclude(_) => Ok(not_in(&OF_THREADS, byte)),
         Modifier::LocationOnly(location) => {

@@ -41,8 +41,8 @@ const NARROW: &str = "{\"name\":\"narrow\",\"sizes\":[8,8,1,8,8],
 type Row = (&'static str, &'static str, &'static str);
 
 /// Of machine `MIRRORS`.
-static ROWS: [Row; 24] = [
-    // EventRequest.Set of CLASS_UNLOAD: alone, with a ClassMatch, and with a LocationOnly, which CLASS_PREPARE does not allow either
+static ROWS: [Row; 26] = [
+    // EventRequest.Set of CLASS_UNLOAD: alone, with a ClassMatch, and with a LocationOnly, a ThreadOnly and a ClassOnly, which it does not allow
     (
         "00000011 00000010 00 0f 01 09 00 00000000",
         "0000000b 00000010 80 0063",
@@ -57,6 +57,16 @@ static ROWS: [Row; 24] = [
         "0000002b 00000012 00 0f 01 09 00 00000001 07 01 000000000000000a 0000000000000014 0000000000000003",
         "0000000b 00000012 80 0063",
         "0000000b 00000012 80 0067",
+    ),
+    (
+        "0000001a 00000014 00 0f 01 09 00 00000001 03 0000000000000001",
+        "0000000b 00000014 80 0063",
+        "0000000b 00000014 80 0067",
+    ),
+    (
+        "0000001a 00000015 00 0f 01 09 00 00000001 04 000000000000000a",
+        "0000000b 00000015 80 0063",
+        "0000000b 00000015 80 0067",
     ),
     // a kind that is implemented in neither
     (
