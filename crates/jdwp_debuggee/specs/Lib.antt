@@ -25,3 +25,4 @@ pub mod Sending
 pub mod StepParts
 pub mod Wants
 pub mod Deferring
+pub mod StillLaws
