@@ -24,3 +24,4 @@ pub mod Sending
 pub mod StepParts
 pub mod Wants
 pub mod Deferring
+pub mod StillLaws

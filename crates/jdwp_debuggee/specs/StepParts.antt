@@ -1,5 +1,5 @@
 -- Parts of a step, as the code makes them one after the other.
-use Rattle.std.specs.Prelude.{◌≡◌, ◌<◌, ◌+◌, ◌^◌, ℕ, Bool, true, false, ◌&&◌, not, nat_lt, List, [], ◌∷◌, ◌++◌, length, Option, Some, None, IfSome, ⊤, if◌then◌else◌}
+use Rattle.std.specs.Prelude.{◌≡◌, ◌<◌, ◌+◌, ◌^◌, ℕ, Bool, true, false, ◌&&◌, ◌||◌, not, nat_lt, List, [], ◌∷◌, ◌++◌, length, Option, Some, None, IfSome, ⊤, if◌then◌else◌}
 use Rattle.std.specs.Option.{option_map}
 use Rattle.jdwp_wire.specs.Widths.{Widths}
 use Rattle.jdwp_value.specs.declared.id.ObjectId.{ObjectId}
@@ -26,6 +26,12 @@ number_of thread = option_map (λ (id : ObjectId). id.0) thread
 abbrev pub is_ready : Settings → State → ℕ → Bool
 is_ready settings state t =
     state.handshaken && (state.alive && (not state.held && (is_zero (count_of state t) && not (at_limit settings.count_limit state))))
+
+-- No thread may step, whichever it is: before the first handshake, where the machine is dead, where events are held, where each live thread is
+-- suspended, and where one stands at the count limit.
+abbrev pub is_still : Settings → State → Bool
+is_still settings state =
+    not state.handshaken || (not state.alive || (state.held || (not (at_limit 0 state) || at_limit settings.count_limit state)))
 
 -- one thread more than there may be would start
 abbrev pub is_full_by : Option ℕ → Settings → State → Bool

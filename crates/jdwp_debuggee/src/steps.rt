@@ -10,7 +10,7 @@ ghost use Rattle.jdwp_debuggee.specs.Entries.{AllAtMost};
 ghost use Rattle.jdwp_debuggee.specs.State.{changed, is_marked, is_other};
 ghost use Rattle.jdwp_debuggee.specs.Steps.{may_step, raised_by};
 ghost use Rattle.jdwp_debuggee.specs.Visits.{visits_at, visits_for};
-ghost use Rattle.jdwp_debuggee.specs.StepParts.{AreFew, HasRoom, SendFits, Steps, StepsOrNot, is_full_by, is_ready, number_of, packet_after, raised_for, unless_last, with_new};
+ghost use Rattle.jdwp_debuggee.specs.StepParts.{AreFew, HasRoom, SendFits, Steps, StepsOrNot, is_full_by, is_ready, is_still, number_of, packet_after, raised_for, unless_last, with_new};
 
 use crate::debuggee::Debuggee;
 use crate::threads::Threads;
@@ -149,6 +149,18 @@ impl<M: Machine> Debuggee<M> {
         }
         let happening = self.machine.next(thread)?;
         self.step_into(alloc, thread, &happening)
+    }
+
+    /// Whether no thread may step, whichever it is: before the first handshake, where the machine is dead, where events are held, where each
+    /// live thread is suspended, and where one stands at the count limit. However many threads live, it looks at one of them at the most.
+    pub fn is_still(&self) -> bool
+        ensures { result ≡ is_still self.now.settings self.now.moment.state }
+    {
+        !self.handshaken
+            || !self.alive
+            || self.held
+            || self.threads.are_all_suspended()
+            || self.threads.stands_at(self.settings.count_limit())
     }
 
     /// Whether a thread may step but for a thread too many that would start.

@@ -1,6 +1,6 @@
 //! The live threads and their suspend counts.
 ghost use Rattle.jdwp_wire.specs.Numbers.{greatest_int};
-ghost use Rattle.std.specs.Prelude.{◌≡◌, ◌≤◌, ◌<◌, ◌+◌, ◌^◌, ◌++◌, ◌∷◌, [], map, length, false, OnOk, IfOk};
+ghost use Rattle.std.specs.Prelude.{◌≡◌, ◌≤◌, ◌<◌, ◌+◌, ◌^◌, ◌++◌, ◌∷◌, [], map, length, not, false, OnOk, IfOk};
 ghost use Rattle.std.specs.List.{filter};
 ghost use Rattle.jdwp_machine.specs.Meanings.{numbers};
 ghost use Rattle.jdwp_debuggee.specs.Entries.{AllAtMost, all_marked, ids_of, least_of, place_from, stands_at, threads_of};
@@ -228,6 +228,13 @@ impl Threads {
         ensures { result ≡ stands_at limit self.now.list }
     {
         self.counts.is_at_limit(limit)
+    }
+
+    /// Whether each live thread is suspended. It looks at none of them.
+    pub(crate) fn are_all_suspended(&self) -> bool
+        ensures { result ≡ not (stands_at 0 self.now.list) }
+    {
+        self.counts.are_all_suspended()
     }
 
     /// The live thread of least id; 0 where none lives.

@@ -26,7 +26,7 @@ has-middle : (xs ys : List ℕ) (id : ℕ) → has (xs ++ id ∷ ys) id ≡ true
 has-middle [] ys id = grind (arith, common_steps)
 has-middle (x ∷ xs) ys id = grind (arith, common_steps, has-middle xs ys id)
 
-has-first : (x : ℕ) (xs : List ℕ) (id : ℕ) → has (x ∷ xs) id ≡ true → (id ≡ x) ⊎ (has xs id ≡ true)
+pub has-first : (x : ℕ) (xs : List ℕ) (id : ℕ) → has (x ∷ xs) id ≡ true → (id ≡ x) ⊎ (has xs id ≡ true)
 has-first x xs id h = grind (arith, common_steps, h)
 
 below-none : (last : Option ℕ) (xs : List ℕ) (id : ℕ) → AreBelow last xs → has xs id ≡ true → is_above last id ≡ false

@@ -6,3 +6,4 @@ pub mod Runs
 pub mod Spending
 pub mod Turns
 pub mod Ahead
+pub mod Still

@@ -4,8 +4,10 @@
 
 mod serving;
 mod sessions;
+mod stepping;
 mod walk;
 
 pub use serving::serve;
 pub use sessions::{serve_script, serve_session};
+pub use stepping::step_each;
 pub use walk::ThreadWalk;

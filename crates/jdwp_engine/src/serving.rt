@@ -16,7 +16,7 @@ ghost use Rattle.jdwp_engine.specs.Rounds.{IsAhead, StepsEach, id_in, is_step};
 ghost use Rattle.jdwp_engine.specs.Sessions.{LastRound, Round, Runs, Serves, unflushed_target};
 ghost use Rattle.jdwp_engine.specs.Steps.{StepsIf};
 
-use crate::walk::ThreadWalk;
+use crate::stepping::step_each;
 use jdwp_end::{CHUNK, Ended, NoInput, Pipe, flush_all, read_and_feed, write_out};
 use jdwp_machine::Machine;
 use jdwp_target::{Stepped, Target, TargetFault, Turn};
@@ -257,65 +257,6 @@ fn step_or_read<M: Machine + Drop, P: Pipe>(
             AfterRound::Goes => AfterRound::Ends(Ended::NoMemory),
             AfterRound::Ends(ended) => AfterRound::Ends(ended),
         },
-    }
-}
-
-/// One step of each live thread, by rising id, and whether one of them stepped. Threads that a step starts are among them where their
-/// ids are higher.
-///
-/// # Errors
-/// `NoMemory` where a step wanted memory; those of lower ids were made.
-fn step_each<M: Machine + Drop>(target: &mut Target<M>) -> Result<bool, TargetFault>
-    requires { is_open target.old.end ≡ true }
-    ensures stepped { IfOk result (StepsIf target.old target.new) }
-    ensures each { StepsEach M.meaning None target.old result target.new }
-    ensures memory { OnErr result (((stepped : Bool) × StepsIf target.old target.new stepped)
-        × (is_open target.new.end ≡ true) × MayStep target.new) }
-{
-    let mut has_stepped = false;
-    let mut walk = ThreadWalk::begin(target.live());
-    while let Some(thread) = walk.next(target.live()) {
-        match step_one(target, thread, has_stepped, &mut walk) {
-            Ok(now) => has_stepped = now,
-            Err(fault) => return Err(fault),
-        }
-    }
-    Ok(has_stepped)
-}
-
-/// One step of this thread, after others or none, and whether one of them stepped. Where it was made, the walk goes on over the threads that
-/// live now.
-fn step_one<M: Machine + Drop>(
-    target: &mut Target<M>,
-    thread: ObjectId,
-    has_stepped: bool,
-    walk: &mut ThreadWalk,
-) -> Result<bool, TargetFault>
-    ensures goes { IfOk result (λ now. (first : spec.Target M) → is_open first.end ≡ true
-        → StepsIf first target.old has_stepped → StepsIf first target.new now) }
-    ensures steps { IfOk result (λ now. (stepped : declared.Stepped)
-        × StepsAt M.meaning thread.0 target.old (Ok stepped) target.new
-        × StepReadsBack M.meaning thread.0 target.old
-        × (now ≡ (has_stepped || is_step stepped))) }
-    ensures wants { IfErr result (λ fault. StepsAt M.meaning thread.0 target.old
-        (Err fault) target.new) }
-    ensures memory { OnErr result (MayStep target.old × (target.new ≡ target.old)) }
-    ensures last { walk.new.last ≡ walk.old.last }
-    ensures ahead { OnOk result (IsAhead (M.meaning.live target.old.moment.machine)
-        (id_in walk.old.last) walk.old.place → IsAhead (M.meaning.live target.new.moment.machine)
-        (id_in walk.new.last) walk.new.place) }
-{
-    jdwp_target::laws::closes_for_a_reason::<M>();
-    let stepped = match target.step(thread) {
-        Ok(stepped) => stepped,
-        Err(fault) => return Err(fault),
-    };
-    match stepped {
-        Stepped::Frozen => Ok(has_stepped),
-        _ => {
-            walk.renew(target.live());
-            Ok(true)
-        }
     }
 }
 

@@ -1,5 +1,5 @@
 //! The debuggee's end of a session.
-ghost use Rattle.std.specs.Prelude.{◌≡◌, ◌≤◌, ◌<◌, ◌++◌, ◌↔◌, ℕ, [], true, false, Err, IfOk, IfSome, IsTrue, is_some, length, take, drop, min};
+ghost use Rattle.std.specs.Prelude.{◌≡◌, ◌≤◌, ◌<◌, ◌++◌, ◌↔◌, ◌||◌, ℕ, [], true, false, Err, IfOk, IfSome, IsTrue, is_some, length, take, drop, min};
 ghost use Rattle.jdwp_wire.specs.Bytes.{IsBytes};
 ghost use Rattle.jdwp_wire.specs.Limits.{standard_limits};
 ghost use Rattle.jdwp_wire.specs.Streams.{More};
@@ -7,10 +7,12 @@ ghost use Rattle.jdwp_end.specs.Ends as ends;
 ghost use Rattle.jdwp_end.specs.Ends.{front_of, most_outgoing, room_of};
 ghost use Rattle.jdwp_machine.specs.Meanings.{has, numbers};
 ghost use Rattle.jdwp_debuggee.specs.State as spec;
+ghost use Rattle.jdwp_debuggee.specs.StepParts.{is_still};
 ghost use Rattle.jdwp_target.specs.Options.{Lives, LivesWithin, settings_at};
 ghost use Rattle.jdwp_target.specs.declared.setup.SetupFault.TheVariants as setup;
 ghost use Rattle.jdwp_target.specs.Deeds.{DefersFew};
 ghost use Rattle.jdwp_target.specs.Protocol.{IsOver};
+ghost use Rattle.jdwp_target.specs.Turns.{is_frozen};
 ghost use Rattle.jdwp_target.specs.Targets.{Ran, full_standing, lost_target, new_target, opened_target, with_fed, with_taken};
 
 use crate::deferral::Deferral;
@@ -192,6 +194,17 @@ impl<M: Machine + Drop> Target<M> {
         ensures { result ≡ self.now.moment.state.alive }
     {
         self.debuggee.is_alive()
+    }
+
+    /// Whether no thread may step, whichever it is, so that a step of each would be `Frozen`: where the end is paused, before the first
+    /// handshake, where the machine is dead, where events are held, where each live thread is suspended, and where one stands at the count
+    /// limit. However many threads live, it looks at one of them at the most.
+    pub fn is_still(&self) -> bool
+        ensures exact { result ≡ (ends.is_paused self.now.end
+            || is_still self.now.settings self.now.moment.state) }
+        ensures frozen { result ≡ true → (t : ℕ) → is_frozen M.meaning t self.now ≡ true }
+    {
+        self.end.is_paused() || self.debuggee.is_still()
     }
 
     /// Whether the target noticed that the connection is lost, in the session that is open, or else in the last one. `lose`, and bytes that

@@ -72,3 +72,32 @@ limit-first b s k es rs r one a h =
 
 pub limit-empty : (b s k : ℕ) (es : List Entry) (rs : List Rank) → IsRight b es rs s → 1 ≤ k → s ≡ 0 → list_any (λ n. n == k) (map (count_at b) es) ≡ false
 limit-empty b s k es rs r one e = limit-none b s k es rs r one (subst (λ (n : ℕ). (where_any n (above b (rank_at rs 0).level)) < k) (sym e) one)
+
+-- ---- whether all are suspended
+
+-- the count of one that is suspended is above 0
+suspended-positive : (b s : ℕ) (es : List Entry) (rs : List Rank) → IsRight b es rs s → length rs ≤ s → (i : ℕ) → i < length es → 0 < count_at b (entry_at es i)
+suspended-positive b s es rs r all i h =
+    let e = entry_at es i in
+    let o = own s es rs r.linked i h in
+    let rank = (r.linked.ranked i h).0 in
+    let was : ltb e.rank s ≡ true = grind (arith, nat_tests) in
+    let value : count_at b e ≡ above b (rank_at rs e.rank).level = ap (λ (c : Bool). cond c (above b e.level) 0) (o.0 ∙ was) ∙ ap (above b) o.1 in
+    let least = r.falling.positive e.rank (omega arith) in
+    omega arith
+
+pub all-suspended : (b s : ℕ) (es : List Entry) (rs : List Rank) → IsRight b es rs s → length rs ≤ s → list_any (λ n. n == 0) (map (count_at b) es) ≡ false
+all-suspended b s es rs r all = list_any_none (λ n. n == 0) (map (count_at b) es) (All-from_get_or (λ n. (n == 0) ≡ false) (map (count_at b) es) 0 (λ i h1.
+    let inside : i < length es = subst (λ (n : ℕ). i < n) (length-map (count_at b) es) h1 in
+    let positive = suspended-positive b s es rs r all i inside in
+    let not_0 : (count_at b (entry_at es i) == 0) ≡ false = grind (arith, nat_tests) in
+    ap (λ (n : ℕ). n == 0) (get_or-map (count_at b) es i no_entry 0 inside) ∙ not_0))
+
+-- the first that is not suspended
+pub one-runs : (b s : ℕ) (es : List Entry) (rs : List Rank) → IsRight b es rs s → s < length rs → list_any (λ n. n == 0) (map (count_at b) es) ≡ true
+one-runs b s es rs r less =
+    let at = r.linked.placed s less in
+    let i = (rank_at rs s).place in
+    let runs : ltb s s ≡ false = grind (arith, nat_tests) in
+    let value : get_or (map (count_at b) es) i 0 ≡ 0 = get_or-map (count_at b) es i no_entry 0 at.inside ∙ ap (λ (c : Bool). cond c (above b (entry_at es i).level) 0) (at.is ∙ runs) in
+    list_any_at (λ n. n == 0) (map (count_at b) es) i 0 (subst (λ (n : ℕ). i < n) (sym (length-map (count_at b) es)) at.inside) (eq-eqb (get_or (map (count_at b) es) i 0) 0 value)

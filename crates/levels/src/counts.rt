@@ -1,5 +1,5 @@
 //! Suspend counts, each a level above a base.
-ghost use Rattle.std.specs.Prelude.{◌≡◌, ◌<◌, ◌≤◌, ◌^◌, ◌+◌, ◌==◌, [], IfErr, IfOk, OnErr, OnOk, get_or, length, map, replicate};
+ghost use Rattle.std.specs.Prelude.{◌≡◌, ◌<◌, ◌≤◌, ◌^◌, ◌+◌, ◌==◌, [], IfErr, IfOk, OnErr, OnOk, get_or, length, map, not, replicate};
 ghost use Rattle.std.specs.List.{All, list_any, remove};
 ghost use Rattle.levels.specs.Counts.{but_looks, cleared, count_most, lowered, raised, standing, with_count, with_zero};
 
@@ -228,5 +228,12 @@ impl Counts {
         ensures { result ≡ list_any (λ n. n == limit) self.now.counts }
     {
         self.suspended > 0 && above(self.base, self.order.first_untold().level) == limit as u64
+    }
+
+    /// Whether no count is 0. It looks at none of them.
+    pub fn are_all_suspended(&self) -> bool
+        ensures { result ≡ not (list_any (λ n. n == 0) self.now.counts) }
+    {
+        self.suspended >= self.order.len()
     }
 }

@@ -4,7 +4,7 @@ use Rattle.jdwp_debuggee.specs.Steps.{may_step}
 use Rattle.jdwp_engine.specs.Rounds.{IsAhead, id_in}
 use Rattle.jdwp_engine.proofs.Advancing.{frozen-same, made-step, step-made}
 use Rattle.jdwp_engine.proofs.Onward.{made-none, made-some}
-use Rattle.jdwp_engine.proofs.serving.step_one.Goals as goal
+use Rattle.jdwp_engine.proofs.stepping.step_one.Goals as goal
 
 pub returns-in-Err-clause-memory : goal.returns-in-Err-clause-memory
 returns-in-Err-clause-memory g c = ((c.args.thread.0, c.in-Err.ensures.steps.2, c.in-Err.ensures.steps.1), c.in-Err.ensures.steps.3)

@@ -3,7 +3,8 @@ use Rattle.jdwp_value.specs.declared.id.ObjectId.{ObjectId}
 use Rattle.jdwp_engine.specs.Rounds.{IsAhead, IsNext, StepsUntil, id_in}
 use Rattle.jdwp_engine.proofs.Advancing.{stops}
 use Rattle.jdwp_engine.proofs.Onward.{steps-begin, steps-on, steps-over, steps-stop}
-use Rattle.jdwp_live.proofs.serving.step_each.Goals as goal
+use Rattle.jdwp_engine.proofs.Still.{steps-none}
+use Rattle.jdwp_engine.proofs.stepping.step_each.Goals as goal
 
 pub loop-thread-init : goal.loop-thread-init
 loop-thread-init g c =
@@ -51,3 +52,6 @@ returns-in-Err-clause-each g c =
     c.loop-thread.invariant.each
     (subst (λ (ids : List ℕ). IsNext ids (id_in c.loop-thread.walk.last) (Some c.in-Some.thread.0)) c.live-in-loop-thread.ensures.live c.in-Some.ensures.next)
     c.in-Err.ensures.wants
+
+pub returns-then-is_still-clause-each : goal.returns-then-is_still-clause-each
+returns-then-is_still-clause-each g c = steps-none g.M.Machine.meaning c.args.target.now (c.is_still.ensures.frozen c.if-is_still.true)

@@ -1,7 +1,7 @@
 use Rattle.std.proofs.Common.{◌-◌, ◌^◌, ◌+◌, ℕ, Option, Some, None}
 use Rattle.jdwp_engine.specs.Rounds.{IsAhead, StepsUntil, id_in}
 use Rattle.jdwp_engine.specs.Steps.{StepsIf}
-use Rattle.jdwp_live.proofs.serving.step_each.Given as goal
+use Rattle.jdwp_engine.proofs.stepping.step_each.Given as goal
 
 -- above all that were stepped
 abbrev pub above : Option ℕ → ℕ
