@@ -1,9 +1,9 @@
 -- When data are in a layout, however wide ids are (JDWP specification, "Protocol Details"), and when a struct says what data say.
-use Rattle.std.specs.Prelude.{◌≡◌, ℕ, List, [], ◌∷◌, map, Option, Some, None}
+use Rattle.std.specs.Prelude.{◌≡◌, ℕ, Bool, List, [], ◌∷◌, map, Option, Some, None}
 use Rattle.std.specs.List.{AllByRecursion}
 use Rattle.jdwp_layout.specs.declared.item.Field.{Field}
 use Rattle.jdwp_layout.specs.Grammar.{kind_of}
-use Rattle.jdwp_layout.specs.Meanings.{ScalarMeaning, Byte, Int, Long, DatumMeaning, One, Many, Elements}
+use Rattle.jdwp_layout.specs.Meanings.{ScalarMeaning, Boolean, Byte, Int, Long, DatumMeaning, One, Many, Elements}
 use Rattle.jdwp_layout.specs.ModifiersAndEvents.{modifier_fields, event_fields}
 use Rattle.jdwp_layout.specs.Shapes.{EntryShape, Fields, Modifiers, Events, ItemShape, OneOf, ListOf, RegionOf}
 
@@ -44,6 +44,10 @@ one_each fields = map (λ f. OneOf f) fields
 
 abbrev pub ones : List ScalarMeaning → List DatumMeaning
 ones xs = map (λ x. One x) xs
+
+-- values that are booleans
+abbrev pub booleans : List Bool → List ScalarMeaning
+booleans truths = map (λ b. Boolean b) truths
 
 -- an item of one value
 abbrev pub IsOne : DatumMeaning → Type 0

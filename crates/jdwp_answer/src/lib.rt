@@ -1,6 +1,7 @@
 //! What commands are answered, as structs of named fields (JDWP specification, "Protocol Details").
 #![tactic(auto)]
 
+mod capabilities;
 mod fields;
 mod lines;
 mod lists;
@@ -12,6 +13,7 @@ mod thread_reference;
 mod values;
 mod virtual_machine;
 
+pub use capabilities::{Capabilities, CapabilitiesNew};
 pub use fields::{Listed, Record};
 pub use lists::Children;
 pub use method::{
