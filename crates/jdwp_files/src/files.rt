@@ -17,6 +17,7 @@ ghost use Rattle.jdwp_program.specs.Statuses.{status_of_fault};
 ghost use Rattle.jdwp_program.specs.Outputs.{LeavesCaptureTold};
 ghost use Rattle.jdwp_files.specs.Refusals.{IsFileNotText, RefusesAttachPlan, RefusesScript};
 
+use crate::written::{attach_written_files, is_written};
 use jdwp_attach::Attached;
 use jdwp_end::{Ended, Pipe, Streams};
 use jdwp_engine::serve_script;
@@ -34,7 +35,7 @@ use std::rt::Files;
 use std::{fs, io};
 
 /// The files of a session that were opened, one to read from and one to write to.
-type FileStreams<F> = Streams<Watched<F>, Watched<BufWriter<F>>>;
+pub(crate) type FileStreams<F> = Streams<Watched<F>, Watched<BufWriter<F>>>;
 
 /// Shows the capture of a file, or that of a session in a recording of the network.
 ///
@@ -248,17 +249,21 @@ fn serve_bytes<'a, I: Read, O: Write>(
 /// # Errors
 /// `File` where one can't be read, opened or made, the file that is made is one of the others, or the plan is not UTF-8; `Plan` where it is
 /// refused; `NoMemory`. Then nothing was printed.
-pub fn attach_files<'a, R: Files + AllocGlobal, O: Write>(
+pub fn attach_files<'a, R: Files + AllocGlobal, O: Write, E: Write>(
     rt: &R,
     words: &Attach<'a>,
     files: &SessionFiles<'a>,
     out: &mut O,
+    err: &mut E,
 ) -> Result<Outcome<'a>, Fault<'a>>
     ensures unprinted { OnErr result (Keeps (O.contents out.old) (O.contents out.new)) }
 {
     keep(rt, files.to, words.plan)?;
     keep(rt, files.to, files.from)?;
     let bytes = read(rt, words.plan)?;
+    if is_written(&bytes) {
+        return attach_written_files(rt, words, files, &bytes, out, err);
+    }
     let pipe = streams(rt, files.from, files.to)?;
     attach_over(rt.alloc(), words, files, &bytes, pipe, out)
 }
@@ -313,7 +318,7 @@ fn attach_bytes<'a, I: Read, W: Write, O: Pipe>(
 }
 
 /// Refuses a file to write to that is one that is read, under whatever name. No file is opened.
-fn keep<'a, R: Files>(rt: &R, to: &'a str, other: &str) -> Result<(), Fault<'a>> {
+pub(crate) fn keep<'a, R: Files>(rt: &R, to: &'a str, other: &str) -> Result<(), Fault<'a>> {
     match (fs::metadata(rt, to), fs::metadata(rt, other)) {
         (Ok(written), Ok(read)) if is_same_file(&written, &read) => {
             Err(Fault::File(to, FileCause::AlsoRead))
@@ -331,7 +336,7 @@ fn is_same_file(written: &Metadata, read: &Metadata) -> bool {
 }
 
 /// The files of a session: one to read from, and then a new one to write to.
-fn streams<'a, R: Files + AllocGlobal>(
+pub(crate) fn streams<'a, R: Files + AllocGlobal>(
     rt: &R,
     from: &'a str,
     to: &'a str,

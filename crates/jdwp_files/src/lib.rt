@@ -3,9 +3,11 @@
 
 mod files;
 mod memory;
+mod patient;
 mod running;
 mod sessions;
 mod words;
+mod written;
 
 pub use running::run;
 pub use words::read;

@@ -17,6 +17,7 @@ ghost use Rattle.jdwp_files.specs.Pairs.{IsEndOfPair};
 ghost use Rattle.jdwp_files.specs.Refusals.{RefusesAttachPlan, RefusesPlan, RefusesScript};
 
 use crate::files::{read, text};
+use crate::written::{attach_written_port, is_written};
 use jdwp_attach::{Attached, PlanLine, read_attach_plan, read_plan};
 use jdwp_debuggee::Settings;
 use jdwp_debugger::{Debugger, Order};
@@ -171,15 +172,19 @@ where
 /// # Errors
 /// `File` where the plan's can't be read or is not UTF-8; `Plan` where it is refused; `Port` where the port can't be reached; `NoMemory`.
 /// Then nothing was printed.
-pub fn attach_port<'a, R: Files + Clock + AllocGlobal + Net, O: Write>(
+pub fn attach_port<'a, R: Files + Clock + AllocGlobal + Net, O: Write, E: Write>(
     rt: &R,
     words: &Attach<'a>,
     port: u16,
     out: &mut O,
+    err: &mut E,
 ) -> Result<Outcome<'a>, Fault<'a>>
     ensures unprinted { OnErr result (Keeps (O.contents out.old) (O.contents out.new)) }
 {
     let bytes = read(rt, words.plan)?;
+    if is_written(&bytes) {
+        return attach_written_port(rt, words, port, &bytes, out, err);
+    }
     let plan = attach_plan_of(rt.alloc(), words.plan, &bytes)?;
     attach_by(rt, words, port, plan.as_slice(), out)
 }
@@ -195,7 +200,7 @@ fn attach_by<'a, R: Clock + AllocGlobal + Net, O: Write>(
     ensures unprinted { OnErr result (Keeps (O.contents out.old) (O.contents out.new)) }
 {
     let mut debugger = debugger_of(rt.alloc(), words.limits, words.order)?;
-    let stream = connect(rt, port)?;
+    let stream = connection_of(rt, words, port)?;
     let mut printed = Streams::new(io::empty(), Watched::new(out));
     let turns = u64::from(words.turns);
     let session = attach_stream(
@@ -209,7 +214,24 @@ fn attach_by<'a, R: Clock + AllocGlobal + Net, O: Write>(
         turns,
     )?;
     let (_, output) = printed.into_parts();
-    Ok(Outcome::at_port(session, port, words.limits, output.failure()))
+    let outcome = Outcome::at_port(session, port, words.limits, output.failure());
+    Ok(match words.timeout {
+        Some(milliseconds) => outcome.within(milliseconds),
+        None => outcome,
+    })
+}
+
+/// A connection to this port, of which a read fails with `WouldBlock` once nothing came for as long as the words say, if they do.
+fn connection_of<R: Net>(net: &R, words: &Attach<'_>, port: u16) -> Result<R::Stream, PortFault> {
+    let stream = connect(net, port)?;
+    let Some(milliseconds) = words.timeout else {
+        return Ok(stream);
+    };
+    let time = Duration::from_millis(u64::from(milliseconds));
+    match stream.set_read_timeout(Some(time)) {
+        Ok(()) => Ok(stream),
+        Err(error) => Err(PortFault::of_port(port, error)),
+    }
 }
 
 /// A closed debugger within these limits, of a target that sends in this order, on the heap.

@@ -14,6 +14,8 @@ use Rattle.jdwp_port.specs.declared.faults.PortFault.{PortFault}
 use Rattle.jdwp_port.specs.declared.faults.PortFault.TheVariants as port
 use Rattle.jdwp_recording.specs.declared.recording_fault.RecordingFault.{RecordingFault}
 use Rattle.jdwp_recording.specs.declared.recording_fault.RecordingFault.TheVariants as recording
+use Rattle.jdwp_plan.specs.declared.plan_fault.PlanFault.{PlanFault as WrittenFault}
+use Rattle.jdwp_plan.specs.declared.plan_fault.PlanFault.TheVariants as written
 use Rattle.jdwp_program.specs.declared.captures.TellFault.{TellFault}
 use Rattle.jdwp_program.specs.declared.captures.TellFault.TheVariants as telling
 use Rattle.jdwp_program.specs.declared.fault.Fault.{Fault}
@@ -56,6 +58,11 @@ fault_of_port port.NoMemory = fault.NoMemory
 abbrev pub fault_of_script : Bor (List ℕ) → ScriptFault → Detail → Fault
 fault_of_script path script.NoMemory detail = fault.NoMemory
 fault_of_script path other detail = fault.Script path other detail
+
+-- what is told of the fault of the plan in words of a file of this name: want of memory alone, or the fault
+abbrev pub fault_of_written : Bor (List ℕ) → WrittenFault → Fault
+fault_of_written path written.NoMemory = fault.NoMemory
+fault_of_written path other = fault.Written path other
 
 -- what is told of the fault of a recording in a file of this name: want of memory alone, or the fault
 abbrev pub fault_of_recording : Bor (List ℕ) → RecordingFault → Fault

@@ -1,0 +1,98 @@
+//! Runs of plans in words over files.
+use crate::runs::{ANSWERS, SESSION, file_holds, is_run, remove, write};
+
+const PLAN: &str = "plan 2
+ask VirtualMachine.Suspend
+ask ThreadReference.SuspendCount #1
+expect 0 1
+expect held #1
+ask VirtualMachine.Dispose
+";
+
+/// What is printed as it is carried out.
+const PRINTED: &str = "< reply VirtualMachine.Suspend 0
+< reply ThreadReference.SuspendCount 0 1
+< reply VirtualMachine.Dispose 0
+";
+
+/// Plans, the status, what is printed, and what is told.
+static ENDS: [(&str, u8, &str, &str); 6] = [
+    (PLAN, 0, PRINTED, ""),
+    (
+        "plan 2\nwait event\nexpect 0 [(90, 0, #2)]\nmirror\n",
+        5,
+        "< Event.Composite 0 [(90, 0, #1)]\n",
+        "jdwp: line 3 of the plan: expected `0 [(90, 0, #2)]`, found `0 [(90, 0, #1)]`\n",
+    ),
+    (
+        "plan 2\nevents 2\n",
+        5,
+        "< Event.Composite 0 [(90, 0, #1)]\n",
+        "jdwp: line 2 of the plan was not reached: the connection is lost: a read failed, or the input ended\n",
+    ),
+    (
+        "plan 2\nmay end\nevents 2\n",
+        0,
+        "< Event.Composite 0 [(90, 0, #1)]\n",
+        "",
+    ),
+    (
+        "plan 2\nwait event\nask ThreadReference.Name $thread\n",
+        1,
+        "< Event.Composite 0 [(90, 0, #1)]\n",
+        "jdwp: line 3 of the plan: at byte 0, counted from 0: expected a name that a line `let` above has bound\n",
+    ),
+    (
+        "plan 2\nmirror\n\nexpect\n",
+        1,
+        "",
+        "jdwp: written_plan: line 4 of the plan: at byte 6, counted from 0: expected a space, and what belongs behind it\n",
+    ),
+];
+
+#[test]
+fn a_plan_in_words_is_run(rt: HostRuntime) {
+    let (plan, from, to) = ("written_plan", "written_from", "written_to");
+    write(&rt, from, &ANSWERS);
+    for &(text, status, out, err) in ENDS.iter() {
+        write(&rt, plan, text.as_bytes());
+        is_run(
+            &rt,
+            &["attach", plan, "--from", from, "--to", to],
+            status,
+            out,
+            err,
+        );
+    }
+    remove(&rt, &[plan, from, to]);
+}
+
+/// The plan's expectations as test cases.
+const CASES: &str = "<?xml version=\"1.0\" encoding=\"UTF-8\"?>
+<testsuite name=\"cases_plan\" tests=\"2\" failures=\"0\" errors=\"0\" skipped=\"0\">
+<testcase name=\"line 4: expect 0 1\"/>
+<testcase name=\"line 5: expect held #1\"/>
+</testsuite>
+";
+
+#[test]
+fn expectations_are_written(rt: HostRuntime) {
+    let (plan, from, to, cases) = ("cases_plan", "cases_from", "cases_to", "cases.xml");
+    write(&rt, plan, PLAN.as_bytes());
+    write(&rt, from, &ANSWERS);
+    let words = ["attach", plan, "--from", from, "--to", to, "--junit", cases];
+    is_run(&rt, &words, 0, PRINTED, "");
+    file_holds(&rt, to, &SESSION);
+    file_holds(&rt, cases, CASES.as_bytes());
+    let same = ["attach", plan, "--from", from, "--to", to, "--junit", plan];
+    is_run(
+        &rt,
+        &same,
+        1,
+        "",
+        "jdwp: cases_plan: a file that is read, too: writing to it would empty it\n",
+    );
+    let folder = ["attach", plan, "--from", from, "--to", to, "--junit", "."];
+    is_run(&rt, &folder, 2, PRINTED, "jdwp: .: a folder, not a file\n");
+    remove(&rt, &[plan, from, to, cases]);
+}
