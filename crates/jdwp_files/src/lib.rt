@@ -3,7 +3,6 @@
 
 mod files;
 mod memory;
-mod patient;
 mod running;
 mod sessions;
 mod words;

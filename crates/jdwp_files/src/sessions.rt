@@ -17,7 +17,7 @@ ghost use Rattle.jdwp_files.specs.Pairs.{IsEndOfPair};
 ghost use Rattle.jdwp_files.specs.Refusals.{RefusesAttachPlan, RefusesPlan, RefusesScript};
 
 use crate::files::{read, text};
-use crate::written::{attach_written_port, is_written};
+use crate::written::{attach_written_port, without_cases, written_text};
 use jdwp_attach::{Attached, PlanLine, read_attach_plan, read_plan};
 use jdwp_debuggee::Settings;
 use jdwp_debugger::{Debugger, Order};
@@ -167,11 +167,12 @@ where
     })
 }
 
-/// Runs a plan as the debugger of the target that listens at a port, and prints what it reads.
+/// Runs a plan as the debugger of the target that listens at a port, and prints what it reads; where a plan in words was not carried out, why
+/// is told on `err`.
 ///
 /// # Errors
-/// `File` where the plan's can't be read or is not UTF-8; `Plan` where it is refused; `Port` where the port can't be reached; `NoMemory`.
-/// Then nothing was printed.
+/// `File` where the plan's can't be read or is not UTF-8, or test cases are to be told of one that is not in words, or in its file; `Plan` or
+/// `Written` where it is refused; `Port` where the port can't be reached; `NoMemory`. Then nothing was printed.
 pub fn attach_port<'a, R: Files + Clock + AllocGlobal + Net, O: Write, E: Write>(
     rt: &R,
     words: &Attach<'a>,
@@ -182,9 +183,10 @@ pub fn attach_port<'a, R: Files + Clock + AllocGlobal + Net, O: Write, E: Write>
     ensures unprinted { OnErr result (Keeps (O.contents out.old) (O.contents out.new)) }
 {
     let bytes = read(rt, words.plan)?;
-    if is_written(&bytes) {
-        return attach_written_port(rt, words, port, &bytes, out, err);
+    if let Some(text) = written_text(&bytes) {
+        return attach_written_port(rt, words, port, text, out, err);
     }
+    without_cases(words)?;
     let plan = attach_plan_of(rt.alloc(), words.plan, &bytes)?;
     attach_by(rt, words, port, plan.as_slice(), out)
 }

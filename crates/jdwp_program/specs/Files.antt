@@ -21,7 +21,7 @@ use Rattle.jdwp_program.specs.declared.captures.TellFault.TheVariants as telling
 use Rattle.jdwp_program.specs.declared.fault.Fault.{Fault}
 use Rattle.jdwp_program.specs.declared.fault.Fault.TheVariants as fault
 use Rattle.jdwp_program.specs.declared.fault.FileCause.{FileCause}
-use Rattle.jdwp_program.specs.declared.fault.FileCause.TheVariants.{Absent, NotAllowed, Folder, NotUtf8, ByteOrderMark, AlsoRead, Other}
+use Rattle.jdwp_program.specs.declared.fault.FileCause.TheVariants.{Absent, NotAllowed, Folder, NotUtf8, ByteOrderMark, AlsoRead, AlsoWritten, NoCases, Other}
 
 -- the cause that this error of the system is
 abbrev pub IsCauseOf : Error → FileCause → Type 0
@@ -31,6 +31,8 @@ IsCauseOf error Folder = error_kind error ≡ kind.IsADirectory
 IsCauseOf error (NotUtf8 place) = ⊥
 IsCauseOf error ByteOrderMark = ⊥
 IsCauseOf error AlsoRead = ⊥
+IsCauseOf error AlsoWritten = ⊥
+IsCauseOf error NoCases = ⊥
 IsCauseOf error (Other other) = (other ≡ error) × (error_kind error ≢ kind.NotFound) × (error_kind error ≢ kind.PermissionDenied) × (error_kind error ≢ kind.IsADirectory)
 
 -- what is told of a file of this name at this error: want of memory alone, or the file and why it can't be used

@@ -74,6 +74,12 @@ pub enum FileCause {
     /// It is to be written to and is read, too.
     #[error("a file that is read, too: writing to it would empty it")]
     AlsoRead,
+    /// It is to be written to for two ends.
+    #[error("a file that is written to already")]
+    AlsoWritten,
+    /// It is to hold the test cases of a plan that has none.
+    #[error("only a plan in words, whose first line is `plan 2`, has test cases")]
+    NoCases,
     /// Another cause, as the system tells it.
     #[error("{0}")]
     Other(io::Error),

@@ -212,10 +212,10 @@ pub fn report_outcome<E: Write>(outcome: Outcome<'_>, err: &mut E) -> u8
     }
 }
 
-/// Tells why a plan in words was not carried out, in a line that begins with `jdwp: `; nothing where the session might end before it was. What
-/// standard error doesn't take is lost.
+/// Tells why a plan in words was not carried out, in a line that begins with `jdwp: `; nothing where the session might end before it was, or
+/// what was told could not be printed, of which the outcome tells more. What standard error doesn't take is lost.
 pub fn report_plan<E: Write>(alloc: Global, ended: &PlanEnded, err: &mut E) {
-    if ended.verdict() == PlanVerdict::Met {
+    if matches!(ended.verdict(), PlanVerdict::Met | PlanVerdict::NotPrinted) {
         return;
     }
     let _ = match ended.message(alloc) {
