@@ -17,35 +17,51 @@ pub(crate) const PRINTED: &str = "< reply VirtualMachine.Suspend 0
 < reply VirtualMachine.Dispose 0
 ";
 
-/// Plans, the status, what is printed, and what is told.
-static ENDS: [(&str, u8, &str, &str); 6] = [
-    (PLAN, 0, PRINTED, ""),
+/// The handshake, VM_START, and the answer to IDSizes.
+const BEGINNING: usize = 74;
+
+/// Plans, how many of the bytes of the answers come, the status, what is printed, and what is told.
+static ENDS: [(&str, usize, u8, &str, &str); 7] = [
+    (PLAN, 111, 0, PRINTED, ""),
     (
         "plan 2\nwait event\nexpect 0 [(90, 0, #2)]\nmirror\n",
+        BEGINNING,
         5,
         "< Event.Composite 0 [(90, 0, #1)]\n",
         "jdwp: line 3 of the plan: expected `0 [(90, 0, #2)]`, found `0 [(90, 0, #1)]`\n",
     ),
     (
         "plan 2\nevents 2\n",
+        BEGINNING,
         5,
         "< Event.Composite 0 [(90, 0, #1)]\n",
         "jdwp: line 2 of the plan was not reached: the connection is lost: a read failed, or the input ended\n",
     ),
     (
         "plan 2\nmay end\nevents 2\n",
+        BEGINNING,
         0,
         "< Event.Composite 0 [(90, 0, #1)]\n",
         "",
     ),
+    // The next answer is to a command that was not asked.
+    (
+        "plan 2\nmay end\nevents 2\n",
+        111,
+        1,
+        "< Event.Composite 0 [(90, 0, #1)]\n",
+        "jdwp: line 3 of the plan was not reached: this debugger refused what the target sent: fault 42: a reply to no command that waits\n",
+    ),
     (
         "plan 2\nwait event\nask ThreadReference.Name $thread\n",
+        BEGINNING,
         1,
         "< Event.Composite 0 [(90, 0, #1)]\n",
         "jdwp: line 3 of the plan: at byte 0, counted from 0: expected a name that a line `let` above has bound\n",
     ),
     (
         "plan 2\nmirror\n\nexpect\n",
+        BEGINNING,
         1,
         "",
         "jdwp: written_plan: line 4 of the plan: at byte 6, counted from 0: expected a space, and what belongs behind it\n",
@@ -55,9 +71,9 @@ static ENDS: [(&str, u8, &str, &str); 6] = [
 #[test]
 fn a_plan_in_words_is_run(rt: HostRuntime) {
     let (plan, from, to) = ("written_plan", "written_from", "written_to");
-    write(&rt, from, &ANSWERS);
-    for &(text, status, out, err) in ENDS.iter() {
+    for &(text, count, status, out, err) in ENDS.iter() {
         write(&rt, plan, text.as_bytes());
+        write(&rt, from, &ANSWERS[..count.min(ANSWERS.len())]);
         is_run(
             &rt,
             &["attach", plan, "--from", from, "--to", to],

@@ -18,10 +18,11 @@ use std::rt::{Clock, Files};
 /// Runs the words, the first of which is the program's name, and answers the exit status.
 ///
 /// 0: done, by Dispose, the machine's death or a plan that is finished, a capture without a fault, or the version. 1: words that are refused or ask for
-/// help, a file that can't be opened or made or is not UTF-8, a script, a plan, a command of it or bytes that are refused, or a capture with
-/// a fault. 2: a file ended before its session did, or it or the output can't be read or written. 3: no memory. 4: all rounds or turns were
-/// used, or nothing more can happen. 5: something else was told than a plan in words expects, or the session was over before its last line. Each of 1 to 5 is told on `err` behind `jdwp: `, but for the fault of a capture, which `out` tells, and where who reads `out` went
-/// away.
+/// help, a file that can't be opened or made or is not UTF-8, a script, a plan, a line of it or bytes that are refused, or a capture with
+/// a fault. 2: a file ended before its session did, or it, the output or the file of test cases can't be read or written. 3: no memory. 4: all
+/// rounds or turns were used, or nothing more can happen. 5: something else was told than a plan in words expects, or the session was over before its
+/// last line. Each of 1 to 5 is told on `err` behind `jdwp: `, but for the fault of a capture, which `out` tells, and where who reads `out`
+/// went away.
 pub fn run<R, S, O, E>(rt: &R, words: &[S], out: &mut O, err: &mut E) -> u8
 where
     R: Files + Clock + AllocGlobal + Net,

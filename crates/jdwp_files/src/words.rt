@@ -149,7 +149,7 @@ static OF_ATTACH: [Part; 9] = [
     Part::Port("The port of 127.0.0.1 at which the target listens", 1),
     Part::Order,
     Part::Limits,
-    Part::Turns("How many turns the session has at most"),
+    Part::Turns("How many turns the session of a plan in numbers has at most"),
     Part::Timeout,
     Part::Junit,
 ];

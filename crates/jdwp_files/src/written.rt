@@ -160,8 +160,8 @@ fn attach_written<'a, R: Files + AllocGlobal, P: LimitedPipe + Drop, O: Write, E
     let mut printed = Streams::new(io::empty(), Watched::new(out));
     let ended = run_new(rt.alloc(), words, plan, pipe, &mut printed)?;
     let (_, output) = printed.into_parts();
-    let are_written = write_cases(rt, words, plan, &ended, err);
     report_plan(rt.alloc(), &ended, err);
+    let are_written = write_cases(rt, words, plan, &ended, err);
     Ok(outcome_of(ended.verdict(), are_written, words.limits, output.failure()))
 }
 
