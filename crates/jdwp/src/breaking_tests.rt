@@ -2,6 +2,7 @@
 use crate::asserts::{expect_same, expect_same_for};
 use crate::runs::{ANSWERS, remove, write};
 use crate::tests::{CAPTURE, PLAN, PRINTED, SHOWN};
+use crate::written_tests as written;
 use jdwp_files::run;
 use std::io;
 use std::io::{Cursor, ErrorKind, Write};
@@ -85,5 +86,7 @@ fn an_output_of_attach_that_breaks_is_told_as_such(rt: HostRuntime) {
         "broken_to",
     ];
     breaks(&rt, &words, PRINTED);
+    write(&rt, "broken_plan", written::PLAN.as_bytes());
+    breaks(&rt, &words, written::PRINTED);
     remove(&rt, &["broken_plan", "broken_from", "broken_to"]);
 }

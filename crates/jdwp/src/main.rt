@@ -15,6 +15,8 @@ mod streams;
 mod tests;
 #[cfg(test)]
 mod word_tests;
+#[cfg(test)]
+mod written_tests;
 
 use crate::prompt::Prompt;
 use crate::streams::fill_standard_streams;

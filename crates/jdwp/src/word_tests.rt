@@ -169,7 +169,7 @@ static HELP: [(&str, &str); 24] = [
     ),
     (
         "attach --help",
-        "Runs a plan|Usage: jdwp attach |<PLAN>|--from <FILE>|--to <FILE>|--order <ORDER>|[default: one]|one, apart|--turns <N>",
+        "Runs a plan|Usage: jdwp attach |<PLAN>|--from <FILE>|--to <FILE>|--order <ORDER>|[default: one]|one, apart|--turns <N>|--timeout <MS>",
     ),
     (
         "pair --help",
@@ -358,6 +358,8 @@ fn attaches(rt: &impl Abort, alloc: Global, more: &[&str], order: Order, turns: 
         order,
         limits: Limits::standard(),
         turns,
+        timeout: None,
+        junit: None,
     });
     are_read(rt, alloc, words.as_slice(), &want);
 }
@@ -403,6 +405,8 @@ fn attaches_at(rt: &impl Abort, alloc: Global, words: &[&str], port: u16) {
         order: Order::One,
         limits: Limits::standard(),
         turns: 5,
+        timeout: Some(2147483647),
+        junit: None,
     });
     are_read(rt, alloc, words, &want);
 }
@@ -420,7 +424,16 @@ fn ports_are_read(rt: HostRuntime) {
     attaches_at(
         &rt,
         rt.alloc(),
-        &["jdwp", "attach", "p", "--port=65535", "--turns", "5"],
+        &[
+            "jdwp",
+            "attach",
+            "p",
+            "--port=65535",
+            "--turns",
+            "5",
+            "--timeout",
+            "2147483647",
+        ],
         65535,
     );
 }
@@ -514,7 +527,7 @@ fn pairs(
 }
 
 /// Words about ports and about both ends that are refused.
-static REFUSED_PEERS: [&[&str]; 17] = [
+static REFUSED_PEERS: [&[&str]; 20] = [
     &["serve-script", "m", "--port"],
     &["serve-script", "m", "--port", "0"],
     &["serve-script", "m", "--port", "65536"],
@@ -541,6 +554,9 @@ static REFUSED_PEERS: [&[&str]; 17] = [
     &["pair", "m", "p", "--memory", "--profile", "jdi"],
     &["pair", "m", "p", "--memory", "--defer", "--defer"],
     &["attach", "p", "--port", "80", "--defer"],
+    &["attach", "p", "--port", "80", "--timeout", "0"],
+    &["attach", "p", "--port", "80", "--timeout", "+5"],
+    &["attach", "p", "--from", "f", "--to", "t", "--timeout", "5"],
 ];
 
 #[test]
@@ -680,6 +696,8 @@ fn attaches_within(rt: &impl Abort, alloc: Global, words: &[&str], limits: Limit
         order: Order::One,
         limits,
         turns: 100000,
+        timeout: None,
+        junit: None,
     });
     are_read(rt, alloc, words, &want);
 }

@@ -17,6 +17,7 @@ ghost use Rattle.jdwp_program.specs.Statuses.{status_of_fault};
 ghost use Rattle.jdwp_program.specs.Outputs.{LeavesCaptureTold};
 ghost use Rattle.jdwp_files.specs.Refusals.{IsFileNotText, RefusesAttachPlan, RefusesScript};
 
+use crate::written::{attach_written_files, without_cases, written_text};
 use jdwp_attach::Attached;
 use jdwp_end::{Ended, Pipe, Streams};
 use jdwp_engine::serve_script;
@@ -34,7 +35,7 @@ use std::rt::Files;
 use std::{fs, io};
 
 /// The files of a session that were opened, one to read from and one to write to.
-type FileStreams<F> = Streams<Watched<F>, Watched<BufWriter<F>>>;
+pub(crate) type FileStreams<F> = Streams<Watched<F>, Watched<BufWriter<F>>>;
 
 /// Shows the capture of a file, or that of a session in a recording of the network.
 ///
@@ -242,23 +243,28 @@ fn serve_bytes<'a, I: Read, O: Write>(
     }
 }
 
-/// Runs a plan as the debugger of the session of a file, and prints what it reads. The file of what the debugger sends is made only once the
-/// others are read and open, and the plan is judged then.
+/// Runs a plan as the debugger of the session of a file, and prints what it reads; where a plan in words was not carried out, why is told on
+/// `err`. The file of what the debugger sends is made only once the others are read and open. The plan is judged then, and one in words before.
 ///
 /// # Errors
-/// `File` where one can't be read, opened or made, the file that is made is one of the others, or the plan is not UTF-8; `Plan` where it is
-/// refused; `NoMemory`. Then nothing was printed.
-pub fn attach_files<'a, R: Files + AllocGlobal, O: Write>(
+/// `File` where one can't be read, opened or made, a file that is made is one of the others, the plan is not UTF-8, or test cases are to be told of one
+/// that is not in words; `Plan` or `Written` where the plan is refused; `NoMemory`. Then nothing was printed.
+pub fn attach_files<'a, R: Files + AllocGlobal, O: Write, E: Write>(
     rt: &R,
     words: &Attach<'a>,
     files: &SessionFiles<'a>,
     out: &mut O,
+    err: &mut E,
 ) -> Result<Outcome<'a>, Fault<'a>>
     ensures unprinted { OnErr result (Keeps (O.contents out.old) (O.contents out.new)) }
 {
     keep(rt, files.to, words.plan)?;
     keep(rt, files.to, files.from)?;
     let bytes = read(rt, words.plan)?;
+    if let Some(text) = written_text(&bytes) {
+        return attach_written_files(rt, words, files, text, out, err);
+    }
+    without_cases(words)?;
     let pipe = streams(rt, files.from, files.to)?;
     attach_over(rt.alloc(), words, files, &bytes, pipe, out)
 }
@@ -313,25 +319,28 @@ fn attach_bytes<'a, I: Read, W: Write, O: Pipe>(
 }
 
 /// Refuses a file to write to that is one that is read, under whatever name. No file is opened.
-fn keep<'a, R: Files>(rt: &R, to: &'a str, other: &str) -> Result<(), Fault<'a>> {
-    match (fs::metadata(rt, to), fs::metadata(rt, other)) {
-        (Ok(written), Ok(read)) if is_same_file(&written, &read) => {
-            Err(Fault::File(to, FileCause::AlsoRead))
-        }
-        _ => Ok(()),
+pub(crate) fn keep<'a, R: Files>(rt: &R, to: &'a str, other: &str) -> Result<(), Fault<'a>> {
+    if is_one_file(rt, to, other) {
+        return Err(Fault::File(to, FileCause::AlsoRead));
+    }
+    Ok(())
+}
+
+/// Whether both names are of one file that holds bytes. No file is opened.
+pub(crate) fn is_one_file<R: Files>(rt: &R, name: &str, other: &str) -> bool {
+    match (fs::metadata(rt, name), fs::metadata(rt, other)) {
+        (Ok(one), Ok(other)) => is_same_file(&one, &other),
+        _ => false,
     }
 }
 
 /// Whether both are of one file that holds bytes. One without a number on its device is the same as none.
-fn is_same_file(written: &Metadata, read: &Metadata) -> bool {
-    written.is_file()
-        && written.ino() != 0
-        && written.ino() == read.ino()
-        && written.dev() == read.dev()
+fn is_same_file(one: &Metadata, other: &Metadata) -> bool {
+    one.is_file() && one.ino() != 0 && one.ino() == other.ino() && one.dev() == other.dev()
 }
 
 /// The files of a session: one to read from, and then a new one to write to.
-fn streams<'a, R: Files + AllocGlobal>(
+pub(crate) fn streams<'a, R: Files + AllocGlobal>(
     rt: &R,
     from: &'a str,
     to: &'a str,

@@ -6,6 +6,7 @@ mod memory;
 mod running;
 mod sessions;
 mod words;
+mod written;
 
 pub use running::run;
 pub use words::read;

@@ -18,17 +18,18 @@ use std::rt::{Clock, Files};
 /// Runs the words, the first of which is the program's name, and answers the exit status.
 ///
 /// 0: done, by Dispose, the machine's death or a plan that is finished, a capture without a fault, or the version. 1: words that are refused or ask for
-/// help, a file that can't be opened or made or is not UTF-8, a script, a plan, a command of it or bytes that are refused, or a capture with
-/// a fault. 2: a file ended before its session did, or it or the output can't be read or written. 3: no memory. 4: all rounds or turns were
-/// used, or nothing more can happen. Each of 1 to 4 is told on `err` behind `jdwp: `, but for the fault of a capture, which `out` tells, and where who reads `out` went
-/// away.
+/// help, a file that can't be opened or made or is not UTF-8, a script, a plan, a line of it or bytes that are refused, or a capture with
+/// a fault. 2: a file ended before its session did, or it, the output or the file of test cases can't be read or written. 3: no memory. 4: all
+/// rounds or turns were used, or nothing more can happen. 5: something else was told than a plan in words expects, or the session was over before its
+/// last line. Each of 1 to 5 is told on `err` behind `jdwp: `, but for the fault of a capture, which `out` tells, and where who reads `out`
+/// went away.
 pub fn run<R, S, O, E>(rt: &R, words: &[S], out: &mut O, err: &mut E) -> u8
 where
     R: Files + Clock + AllocGlobal + Net,
     S: AsStr,
     O: Write,
     E: Write,
-    ensures bound { result ≤ 4 }
+    ensures bound { result ≤ 5 }
     // Unless the command runs a plan, on `out` is nothing, or what is told of a capture: all of it, the status saying whether it has a
     // fault, or a beginning; or the same of a recording, or its capture; or the program's version, or the line of a port, or a beginning
     // of it.
@@ -57,7 +58,7 @@ where
 {
     match crate::words::read(rt.alloc(), words)? {
         Words::ServeScript(words) => serve(rt, &words, out, err),
-        Words::Attach(words) => attach(rt, &words, out),
+        Words::Attach(words) => attach(rt, &words, out, err),
         Words::Pair(words) => pair(rt, &words, out),
         Words::Show(words) => Ok(Outcome::Capture(show_file(rt, &words, out, err)?)),
         Words::Check(words) => Ok(Outcome::Capture(check_file(rt, &words, out, err)?)),
@@ -97,15 +98,16 @@ fn serve<'a, R: Files + Clock + AllocGlobal + Net, O: Write, E: Write>(
 }
 
 /// Runs a plan as the debugger of the session of a file, or at a port.
-fn attach<'a, R: Files + Clock + AllocGlobal + Net, O: Write>(
+fn attach<'a, R: Files + Clock + AllocGlobal + Net, O: Write, E: Write>(
     rt: &R,
     words: &Attach<'a>,
     out: &mut O,
+    err: &mut E,
 ) -> Result<Outcome<'a>, Fault<'a>> {
     keep_freed_memory(rt.alloc(), &words.limits);
     match words.peer {
-        Peer::Files(files) => attach_files(rt, words, &files, out),
-        Peer::Port(port) => attach_port(rt, words, port, out),
+        Peer::Files(files) => attach_files(rt, words, &files, out, err),
+        Peer::Port(port) => attach_port(rt, words, port, out, err),
     }
 }
 

@@ -17,6 +17,7 @@ ghost use Rattle.jdwp_files.specs.Pairs.{IsEndOfPair};
 ghost use Rattle.jdwp_files.specs.Refusals.{RefusesAttachPlan, RefusesPlan, RefusesScript};
 
 use crate::files::{read, text};
+use crate::written::{attach_written_port, without_cases, written_text};
 use jdwp_attach::{Attached, PlanLine, read_attach_plan, read_plan};
 use jdwp_debuggee::Settings;
 use jdwp_debugger::{Debugger, Order};
@@ -166,20 +167,26 @@ where
     })
 }
 
-/// Runs a plan as the debugger of the target that listens at a port, and prints what it reads.
+/// Runs a plan as the debugger of the target that listens at a port, and prints what it reads; where a plan in words was not carried out, why
+/// is told on `err`.
 ///
 /// # Errors
-/// `File` where the plan's can't be read or is not UTF-8; `Plan` where it is refused; `Port` where the port can't be reached; `NoMemory`.
-/// Then nothing was printed.
-pub fn attach_port<'a, R: Files + Clock + AllocGlobal + Net, O: Write>(
+/// `File` where the plan's can't be read or is not UTF-8, or test cases are to be told of one that is not in words, or in its file; `Plan` or
+/// `Written` where it is refused; `Port` where the port can't be reached; `NoMemory`. Then nothing was printed.
+pub fn attach_port<'a, R: Files + Clock + AllocGlobal + Net, O: Write, E: Write>(
     rt: &R,
     words: &Attach<'a>,
     port: u16,
     out: &mut O,
+    err: &mut E,
 ) -> Result<Outcome<'a>, Fault<'a>>
     ensures unprinted { OnErr result (Keeps (O.contents out.old) (O.contents out.new)) }
 {
     let bytes = read(rt, words.plan)?;
+    if let Some(text) = written_text(&bytes) {
+        return attach_written_port(rt, words, port, text, out, err);
+    }
+    without_cases(words)?;
     let plan = attach_plan_of(rt.alloc(), words.plan, &bytes)?;
     attach_by(rt, words, port, plan.as_slice(), out)
 }
@@ -195,7 +202,7 @@ fn attach_by<'a, R: Clock + AllocGlobal + Net, O: Write>(
     ensures unprinted { OnErr result (Keeps (O.contents out.old) (O.contents out.new)) }
 {
     let mut debugger = debugger_of(rt.alloc(), words.limits, words.order)?;
-    let stream = connect(rt, port)?;
+    let stream = connection_of(rt, words, port)?;
     let mut printed = Streams::new(io::empty(), Watched::new(out));
     let turns = u64::from(words.turns);
     let session = attach_stream(
@@ -209,7 +216,24 @@ fn attach_by<'a, R: Clock + AllocGlobal + Net, O: Write>(
         turns,
     )?;
     let (_, output) = printed.into_parts();
-    Ok(Outcome::at_port(session, port, words.limits, output.failure()))
+    let outcome = Outcome::at_port(session, port, words.limits, output.failure());
+    Ok(match words.timeout {
+        Some(milliseconds) => outcome.within(milliseconds),
+        None => outcome,
+    })
+}
+
+/// A connection to this port, of which a read fails with `WouldBlock` once nothing came for as long as the words say, if they do.
+fn connection_of<R: Net>(net: &R, words: &Attach<'_>, port: u16) -> Result<R::Stream, PortFault> {
+    let stream = connect(net, port)?;
+    let Some(milliseconds) = words.timeout else {
+        return Ok(stream);
+    };
+    let time = Duration::from_millis(u64::from(milliseconds));
+    match stream.set_read_timeout(Some(time)) {
+        Ok(()) => Ok(stream),
+        Err(error) => Err(PortFault::of_port(port, error)),
+    }
 }
 
 /// A closed debugger within these limits, of a target that sends in this order, on the heap.

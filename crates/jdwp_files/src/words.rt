@@ -110,6 +110,8 @@ enum Part {
     Limits,
     Defer,
     Turns(&'static str),
+    Timeout,
+    Junit,
 }
 
 static OF_A_CAPTURE: [Part; 3] = [
@@ -141,14 +143,18 @@ static OF_SERVE_SCRIPT: [Part; 12] = [
     Part::Turns("How many rounds a session has at most"),
 ];
 
-static OF_ATTACH: [Part; 7] = [
-    Part::Plan("A text of lines `ask SET NUMBER [HEX]`, `answers`, `events N` and `mirror`"),
+static OF_ATTACH: [Part; 9] = [
+    Part::Plan(
+        "A text of lines `ask SET NUMBER [HEX]`, `answers`, `events N` and `mirror`, or a plan in words, whose first line is `plan 2`",
+    ),
     Part::From("What the target sent, in bytes"),
     Part::To("Where the debugger's bytes are written"),
     Part::Port("The port of 127.0.0.1 at which the target listens", 1),
     Part::Order,
     Part::Limits,
-    Part::Turns("How many turns the session has at most"),
+    Part::Turns("How many turns the session of a plan in numbers has at most"),
+    Part::Timeout,
+    Part::Junit,
 ];
 
 static OF_PAIR: [Part; 8] = [
@@ -390,7 +396,17 @@ fn read_attach<'a>(alloc: Global, found: &ArgMatches<'a>) -> Result<Attach<'a>, 
         order: read_order(alloc, found, Name::Attach)?,
         limits: read_limits(alloc, found, Name::Attach)?,
         turns: number(alloc, found, "turns", Name::Attach)?,
+        timeout: read_timeout(alloc, found)?,
+        junit: found.get_str("junit"),
     })
+}
+
+/// For how many milliseconds nothing may come, if that is said.
+fn read_timeout<'a>(alloc: Global, found: &ArgMatches<'a>) -> Result<Option<u32>, Fault<'a>> {
+    if !found.contains_id("timeout") {
+        return Ok(None);
+    }
+    Ok(Some(number(alloc, found, "timeout", Name::Attach)?))
 }
 
 /// In which order the target sends that a command of this name has a session with.
@@ -494,7 +510,11 @@ fn bad_number<'a>(alloc: Global, text: &str, name: &str, of: Name) -> Fault<'a> 
 
 /// That this value of the option is no number.
 fn number_message(alloc: Global, text: &str, name: &str) -> Result<String, AllocError> {
-    let shown = if name == "pace" { "MS" } else { "N" };
+    let shown = if name == "pace" || name == "timeout" {
+        "MS"
+    } else {
+        "N"
+    };
     format!(in alloc; "invalid value '{text}' for '--{name} <{shown}>': a number is digits alone")
 }
 
@@ -607,7 +627,16 @@ fn argument_of<'a>(alloc: Global, part: Part) -> Result<Arg<'a>, AllocError> {
         Part::Limits => Ok(limits_option(alloc)),
         Part::Defer => Ok(defer(alloc)),
         Part::Turns(help) => Ok(turns(alloc, help)),
+        Part::Timeout => timeout(alloc),
+        Part::Junit => Ok(junit(alloc)),
     }
+}
+
+/// The file that the expectations of a plan in words are told in.
+fn junit<'a>(alloc: Global) -> Arg<'a> {
+    let help =
+        "Where the expectations of a plan in words are written as test cases, in JUnit's XML";
+    option(alloc, "junit", "FILE", help)
 }
 
 /// The file of a script.
@@ -713,6 +742,17 @@ fn turns<'a>(alloc: Global, help: &'a str) -> Arg<'a> {
     option(alloc, "turns", "N", help)
         .value_parser(value_parser!(u32))
         .default_value("100000")
+}
+
+/// How long a target may be silent.
+fn timeout<'a>(alloc: Global) -> Result<Arg<'a>, AllocError> {
+    let help =
+        "For how many milliseconds nothing may come from the port until the session is lost, for ever if it is not given";
+    let option: Arg<'a> = option(alloc, "timeout", "MS", help).value_parser(value_parser!(
+        u32
+    ).range(1..=i64::from(GREATEST_INT)));
+    let option: Arg<'a> = option.requires_arg("port")?;
+    option.conflicts_with_all(&["from", "to"])
 }
 
 /// The file of a capture.

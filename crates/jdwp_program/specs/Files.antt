@@ -14,12 +14,14 @@ use Rattle.jdwp_port.specs.declared.faults.PortFault.{PortFault}
 use Rattle.jdwp_port.specs.declared.faults.PortFault.TheVariants as port
 use Rattle.jdwp_recording.specs.declared.recording_fault.RecordingFault.{RecordingFault}
 use Rattle.jdwp_recording.specs.declared.recording_fault.RecordingFault.TheVariants as recording
+use Rattle.jdwp_plan.specs.declared.plan_fault.PlanFault.{PlanFault as WrittenFault}
+use Rattle.jdwp_plan.specs.declared.plan_fault.PlanFault.TheVariants as written
 use Rattle.jdwp_program.specs.declared.captures.TellFault.{TellFault}
 use Rattle.jdwp_program.specs.declared.captures.TellFault.TheVariants as telling
 use Rattle.jdwp_program.specs.declared.fault.Fault.{Fault}
 use Rattle.jdwp_program.specs.declared.fault.Fault.TheVariants as fault
 use Rattle.jdwp_program.specs.declared.fault.FileCause.{FileCause}
-use Rattle.jdwp_program.specs.declared.fault.FileCause.TheVariants.{Absent, NotAllowed, Folder, NotUtf8, ByteOrderMark, AlsoRead, Other}
+use Rattle.jdwp_program.specs.declared.fault.FileCause.TheVariants.{Absent, NotAllowed, Folder, NotUtf8, ByteOrderMark, AlsoRead, AlsoWritten, NoCases, Other}
 
 -- the cause that this error of the system is
 abbrev pub IsCauseOf : Error → FileCause → Type 0
@@ -29,6 +31,8 @@ IsCauseOf error Folder = error_kind error ≡ kind.IsADirectory
 IsCauseOf error (NotUtf8 place) = ⊥
 IsCauseOf error ByteOrderMark = ⊥
 IsCauseOf error AlsoRead = ⊥
+IsCauseOf error AlsoWritten = ⊥
+IsCauseOf error NoCases = ⊥
 IsCauseOf error (Other other) = (other ≡ error) × (error_kind error ≢ kind.NotFound) × (error_kind error ≢ kind.PermissionDenied) × (error_kind error ≢ kind.IsADirectory)
 
 -- what is told of a file of this name at this error: want of memory alone, or the file and why it can't be used
@@ -56,6 +60,11 @@ fault_of_port port.NoMemory = fault.NoMemory
 abbrev pub fault_of_script : Bor (List ℕ) → ScriptFault → Detail → Fault
 fault_of_script path script.NoMemory detail = fault.NoMemory
 fault_of_script path other detail = fault.Script path other detail
+
+-- what is told of the fault of the plan in words of a file of this name: want of memory alone, or the fault
+abbrev pub fault_of_written : Bor (List ℕ) → WrittenFault → Fault
+fault_of_written path written.NoMemory = fault.NoMemory
+fault_of_written path other = fault.Written path other
 
 -- what is told of the fault of a recording in a file of this name: want of memory alone, or the fault
 abbrev pub fault_of_recording : Bor (List ℕ) → RecordingFault → Fault

@@ -1,8 +1,9 @@
 -- How a session ended, and where it was lost.
-use Rattle.std.specs.Prelude.{◌≡◌, ◌≢◌, ℕ, Option, None, Some}
+use Rattle.std.specs.Prelude.{◌≡◌, ◌≢◌, ℕ, Bool, true, false, if◌then◌else◌, Option, None, Some}
 use Rattle.std.specs.IoError.{error_kind}
 use Rattle.std.specs.declared.io.Error.{Error}
-use Rattle.std.specs.declared.io.ErrorKind.TheVariants.{BrokenPipe}
+use Rattle.std.specs.declared.io.ErrorKind.{ErrorKind}
+use Rattle.std.specs.declared.io.ErrorKind.TheVariants.{BrokenPipe, WouldBlock}
 use Rattle.jdwp_wire.specs.Limits.{Limits}
 use Rattle.jdwp_end.specs.declared.pipes.ended.Ended.{Ended}
 use Rattle.jdwp_end.specs.declared.pipes.ended.Ended.TheVariants.{LostByRead, LostByWrite, NoMemory}
@@ -10,12 +11,14 @@ use Rattle.jdwp_attach.specs.declared.attached.Attached.{Attached}
 use Rattle.jdwp_attach.specs.declared.attached.Attached.TheVariants as run
 use Rattle.jdwp_port.specs.declared.connection.AtPort.{AtPort}
 use Rattle.jdwp_port.specs.declared.faults.PortCause.{PortCause}
+use Rattle.jdwp_port.specs.declared.faults.PortCause.TheVariants as cause
 use Rattle.jdwp_port.specs.declared.faults.PortFault.{PortFault}
 use Rattle.jdwp_port.specs.declared.faults.PortFault.TheVariants as port
 use Rattle.jdwp_program.specs.declared.losing.Side.{Side}
-use Rattle.jdwp_program.specs.declared.losing.Loss.TheVariants.{FileEnded, Unread, Unwritten, PortEnded, Port, Output, ReaderGone}
+use Rattle.jdwp_program.specs.declared.losing.Loss.{Loss}
+use Rattle.jdwp_program.specs.declared.losing.Loss.TheVariants.{FileEnded, Unread, Unwritten, PortEnded, Port, Silent, Output, ReaderGone}
 use Rattle.jdwp_program.specs.declared.outcome.Outcome.{Outcome}
-use Rattle.jdwp_program.specs.declared.outcome.Outcome.TheVariants.{Session, Lost, RefusedLine, Standstill, Capture, Version}
+use Rattle.jdwp_program.specs.declared.outcome.Outcome.TheVariants.{Session, Lost, RefusedLine, Standstill, Planned, Capture, Version}
 
 -- What is told of a session that ended so, which read from the first file, wrote to the second and printed on an output that failed so, if
 -- it did. A read that failed without an error found the file's end. Of a write that failed the file's error is told, and that of the output
@@ -27,10 +30,12 @@ IsEndOf ended from to output (Lost (Unwritten path error)) = (ended ≡ LostByWr
 IsEndOf ended from to output (Lost (Output error)) = (ended ≡ LostByWrite) × (to.failure ≡ None) × (output ≡ Some error) × (error_kind error ≢ BrokenPipe)
 IsEndOf ended from to output (Lost (PortEnded number)) = ⊥
 IsEndOf ended from to output (Lost (Port number cause)) = ⊥
+IsEndOf ended from to output (Lost (Silent number milliseconds)) = ⊥
 IsEndOf ended from to output (Lost ReaderGone) = (ended ≡ LostByWrite) × (to.failure ≡ None) × (error : Error) × (output ≡ Some error) × (error_kind error ≡ BrokenPipe)
 IsEndOf ended from to output (Session told) = (told ≡ ended) × (ended ≢ LostByRead) × (ended ≡ LostByWrite → (to.failure ≡ None) × (output ≡ None))
 IsEndOf ended from to output (RefusedLine line number most) = ⊥
 IsEndOf ended from to output (Standstill line awaited) = ⊥
+IsEndOf ended from to output (Planned verdict) = ⊥
 IsEndOf ended from to output (Capture told) = ⊥
 IsEndOf ended from to output (Version told) = ⊥
 
@@ -65,3 +70,21 @@ IsEndAtPort session port limits output outcome = IsEndAt session.how session.fai
 abbrev pub lost_port : PortFault → Outcome
 lost_port (port.Port number cause) = Lost (Port number cause)
 lost_port port.NoMemory = Session NoMemory
+
+-- as a read fails that waited for as long as it may
+abbrev pub is_lateness : ErrorKind → Bool
+is_lateness WouldBlock = true
+is_lateness _ = false
+
+abbrev pub is_late : Error → Bool
+is_late error = is_lateness (error_kind error)
+
+-- where a session was lost whose reads waited for so many milliseconds at most
+abbrev pub lost_within : ℕ → Loss → Loss
+lost_within milliseconds (Port number (cause.Other error)) = if is_late error then Silent number milliseconds else Port number (cause.Other error)
+lost_within milliseconds loss = loss
+
+-- what is told of it
+abbrev pub told_within : ℕ → Outcome → Outcome
+told_within milliseconds (Lost loss) = Lost (lost_within milliseconds loss)
+told_within milliseconds outcome = outcome

@@ -2,12 +2,13 @@
 use Rattle.std.specs.Prelude.{ℕ}
 use Rattle.jdwp_end.specs.declared.pipes.ended.Ended.{Ended}
 use Rattle.jdwp_end.specs.declared.pipes.ended.Ended.TheVariants as ended
+use Rattle.jdwp_plan_run.specs.Endings.{status_of}
 use Rattle.jdwp_program.specs.declared.captures.Told.{Told}
 use Rattle.jdwp_program.specs.declared.captures.Told.TheVariants.{Faultless, Faulty, Unread}
 use Rattle.jdwp_program.specs.declared.fault.Fault.{Fault}
-use Rattle.jdwp_program.specs.declared.fault.Fault.TheVariants.{Words, NotText, File, Script, Plan, Recording, Port, Output, Closed, NoMemory}
+use Rattle.jdwp_program.specs.declared.fault.Fault.TheVariants.{Words, NotText, File, Script, Plan, Written, Recording, Port, Output, Closed, NoMemory}
 use Rattle.jdwp_program.specs.declared.outcome.Outcome.{Outcome}
-use Rattle.jdwp_program.specs.declared.outcome.Outcome.TheVariants.{Session, Lost, RefusedLine, Standstill, Capture, Version}
+use Rattle.jdwp_program.specs.declared.outcome.Outcome.TheVariants.{Session, Lost, RefusedLine, Standstill, Planned, Capture, Version}
 
 -- of a session, by how it ended
 abbrev pub status_of_end : Ended → ℕ
@@ -30,6 +31,7 @@ status_of_outcome (Session e) = status_of_end e
 status_of_outcome (Lost loss) = 2
 status_of_outcome (RefusedLine line number most) = 1
 status_of_outcome (Standstill line awaited) = 4
+status_of_outcome (Planned verdict) = status_of verdict
 status_of_outcome (Capture told) = status_of_told told
 status_of_outcome (Version told) = status_of_told told
 
@@ -40,6 +42,7 @@ status_of_fault NotText = 1
 status_of_fault (File path cause) = 1
 status_of_fault (Script path fault detail) = 1
 status_of_fault (Plan path fault) = 1
+status_of_fault (Written path fault) = 1
 status_of_fault (Recording path fault) = 1
 status_of_fault (Port number cause) = 2
 status_of_fault (Output error) = 2

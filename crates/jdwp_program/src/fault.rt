@@ -33,6 +33,9 @@ pub enum Fault<'a> {
     /// The plan of this file is refused.
     #[error("{0}: {1}")]
     Plan(&'a str, PlanFault),
+    /// The plan in words of this file is refused.
+    #[error("{0}: {1}")]
+    Written(&'a str, jdwp_plan::PlanFault),
     /// The recording of the network in this file gives no capture, or only a part of one.
     #[error("{0}: {1}")]
     Recording(&'a str, RecordingFault),
@@ -71,13 +74,19 @@ pub enum FileCause {
     /// It is to be written to and is read, too.
     #[error("a file that is read, too: writing to it would empty it")]
     AlsoRead,
+    /// It is to be written to for two ends.
+    #[error("a file that is written to already")]
+    AlsoWritten,
+    /// It is to hold the test cases of a plan that has none.
+    #[error("only a plan in words, whose first line is `plan 2`, has test cases")]
+    NoCases,
     /// Another cause, as the system tells it.
     #[error("{0}")]
     Other(io::Error),
 }
 
 impl<'a> Fault<'a> {
-    ghost use Rattle.jdwp_program.specs.Files.{IsUnusable, fault_of_plan, fault_of_recording, fault_of_script};
+    ghost use Rattle.jdwp_program.specs.Files.{IsUnusable, fault_of_plan, fault_of_recording, fault_of_script, fault_of_written};
     ghost use Rattle.jdwp_program.specs.Statuses.{status_of_fault};
 
     /// Of a file of this name, whose opening or reading failed so.
@@ -118,6 +127,16 @@ impl<'a> Fault<'a> {
         }
     }
 
+    /// Of the plan in words of a file of this name that has this fault. Want of memory is told alone.
+    pub fn of_written(path: &'a str, fault: jdwp_plan::PlanFault) -> Fault<'a>
+        ensures { result ≡ fault_of_written path.entry fault }
+    {
+        match fault {
+            jdwp_plan::PlanFault::NoMemory => Fault::NoMemory,
+            fault => Fault::Written(path, fault),
+        }
+    }
+
     /// Of a recording in a file of this name that has this fault. Want of memory is told alone.
     pub fn of_recording(path: &'a str, fault: RecordingFault) -> Fault<'a>
         ensures { result ≡ fault_of_recording path.entry fault }
@@ -139,6 +158,7 @@ impl<'a> Fault<'a> {
             | Fault::File(_, _)
             | Fault::Script(_, _, _)
             | Fault::Plan(_, _)
+            | Fault::Written(_, _)
             | Fault::Recording(_, _) => 1,
             Fault::Port(_, _) | Fault::Output(_) | Fault::Closed(_) => 2,
             Fault::NoMemory => 3,

@@ -25,7 +25,7 @@ pub use jdwp_port::Watched;
 pub use listening::tell_listening;
 pub use losing::{Loss, Side};
 pub use notices::Lines;
-pub use outcome::{Outcome, report_fault, report_outcome};
+pub use outcome::{Outcome, report_fault, report_outcome, report_plan};
 pub use recordings::{Recorded, report_connections, session_of};
 pub use values::{decimal, is_all, limits, order, profile};
 pub use version::{VERSION, tell_version};

@@ -28,6 +28,9 @@ pub enum Loss<'a> {
     /// The connection at this port failed, and why.
     #[error("port {0}: {1}")]
     Port(u16, PortCause),
+    /// Nothing came from the connection at this port for so many milliseconds.
+    #[error("port {0}: nothing came for {1} ms")]
+    Silent(u16, u32),
     /// The output can't be written.
     #[error("the output can't be written: {0}")]
     Output(io::Error),

@@ -1,6 +1,6 @@
 //! What the words led to, and the exit status.
 ghost use Rattle.std.specs.Prelude.{◌≡◌, ◌≤◌};
-ghost use Rattle.jdwp_program.specs.Losses.{IsEndAtPort, IsEndOf, IsEndOfPlan, IsEndWithoutFiles, lost_port};
+ghost use Rattle.jdwp_program.specs.Losses.{IsEndAtPort, IsEndOf, IsEndOfPlan, IsEndWithoutFiles, is_late, lost_port, told_within};
 ghost use Rattle.jdwp_program.specs.Statuses.{status_of_end, status_of_fault, status_of_told, status_of_outcome};
 
 use crate::awaiting::Awaited;
@@ -10,8 +10,10 @@ use crate::losing::{Loss, Side};
 use jdwp_attach::{Attached, LineFault};
 use jdwp_debugger::{DebuggerFault, Refused};
 use jdwp_end::Ended;
-use jdwp_port::{AtPort, PortFault};
+use jdwp_plan_run::{PlanEnded, PlanVerdict};
+use jdwp_port::{AtPort, PortCause, PortFault};
 use jdwp_wire::{FrameFault, Limits};
+use std::alloc::Global;
 use std::io::{ErrorKind, Write};
 use std::{fmt, io};
 
@@ -28,6 +30,8 @@ pub enum Outcome<'a> {
     /// Nothing more can happen: the line of a plan waits, counted from 1, one more than there are lines where all were carried out; and for
     /// what.
     Standstill(usize, Awaited),
+    /// A plan in words came to this, and why is told.
+    Planned(PlanVerdict),
     /// This was told of a capture.
     Capture(Told),
     /// This was told of the program's version.
@@ -137,6 +141,18 @@ impl<'a> Outcome<'a> {
         }
     }
 
+    /// The same, where a read waited for so many milliseconds at most: a connection that failed as such a read does was silent for so long.
+    pub fn within(self, milliseconds: u32) -> Outcome<'a>
+        ensures { result ≡ told_within milliseconds self.entry }
+    {
+        match self {
+            Outcome::Lost(Loss::Port(port, PortCause::Other(error))) if is_late(error) => {
+                Outcome::Lost(Loss::Silent(port, milliseconds))
+            }
+            outcome => outcome,
+        }
+    }
+
     /// Of a session that was lost since its connection at a port failed so. Want of memory is told alone.
     pub fn lost_port(fault: PortFault) -> Outcome<'a>
         ensures { result ≡ lost_port fault }
@@ -145,6 +161,16 @@ impl<'a> Outcome<'a> {
             PortFault::Port(port, cause) => Outcome::Lost(Loss::Port(port, cause)),
             PortFault::NoMemory => Outcome::Session(Ended::NoMemory),
         }
+    }
+}
+
+/// Whether a read failed so since it waited for as long as it may.
+fn is_late(error: io::Error) -> bool
+    ensures { result ≡ is_late error }
+{
+    match error.kind() {
+        ErrorKind::WouldBlock => true,
+        _ => false,
     }
 }
 
@@ -162,7 +188,7 @@ pub fn report_fault<E: Write>(fault: &Fault<'_>, err: &mut E) -> u8
 /// output went away is not told.
 pub fn report_outcome<E: Write>(outcome: Outcome<'_>, err: &mut E) -> u8
     ensures status { result ≡ status_of_outcome outcome.entry }
-    ensures bound { result ≤ 4 }
+    ensures bound { result ≤ 5 }
 {
     match outcome {
         Outcome::Session(ended) => {
@@ -181,8 +207,22 @@ pub fn report_outcome<E: Write>(outcome: Outcome<'_>, err: &mut E) -> u8
             report_standstill(line, awaited, err);
             4
         }
+        Outcome::Planned(verdict) => verdict.status(),
         Outcome::Capture(told) | Outcome::Version(told) => status_of_told(told),
     }
+}
+
+/// Tells why a plan in words was not carried out, in a line that begins with `jdwp: `; nothing where the session might end before it was, or
+/// what was told could not be printed, of which the outcome tells more. What standard error doesn't take is lost.
+pub fn report_plan<E: Write>(alloc: Global, ended: &PlanEnded, err: &mut E) {
+    if matches!(ended.verdict(), PlanVerdict::Met | PlanVerdict::NotPrinted) {
+        return;
+    }
+    let _ = match ended.message(alloc) {
+        Ok(Some(message)) => writeln!(err, "jdwp: {message}"),
+        Ok(None) => Ok(()),
+        Err(_) => writeln!(err, "jdwp: no memory"),
+    };
 }
 
 /// The exit status of what was told of a capture or of the program's version.

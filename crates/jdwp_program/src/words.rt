@@ -74,7 +74,7 @@ pub struct ServeScript<'a> {
     pub live: Option<u32>,
 }
 
-/// `attach PLAN (--from F --to F | --port N) [--order one|apart] [--limits L] [--turns N]`.
+/// `attach PLAN (--from F --to F | --port N [--timeout MS]) [--order one|apart] [--limits L] [--turns N] [--junit F]`.
 #[derive(Clone, Copy, Debug, PartialEq, Eq)]
 pub struct Attach<'a> {
     /// The file of the plan.
@@ -87,6 +87,10 @@ pub struct Attach<'a> {
     pub limits: Limits,
     /// How many turns the session has at most.
     pub turns: u32,
+    /// At a port, for how many milliseconds nothing may come until the session is lost, if that has a limit.
+    pub timeout: Option<u32>,
+    /// Where the expectations of a plan in words are told as test cases, in JUnit's XML.
+    pub junit: Option<&'a str>,
 }
 
 /// `pair MACHINE PLAN [--memory] [--order one|apart] [--start all|none] [--limits L] [--defer] [--turns N]`.

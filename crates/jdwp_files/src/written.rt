@@ -1,0 +1,230 @@
+//! Plans in words, over files and at a port.
+ghost use Rattle.std.specs.Prelude.{◌≡◌, false, true, None, IfErr, IfOk, MatchOption, OnErr};
+ghost use Rattle.std.specs.Io.KnownBytes.{Keeps};
+ghost use Rattle.std.specs.Str.{IsUtf8};
+ghost use Rattle.std.specs.Str.Lines.{lines};
+ghost use Rattle.jdwp_plan.specs.Plans as plans;
+ghost use Rattle.jdwp_files.specs.Written as written;
+ghost use Rattle.jdwp_files.specs.Written.{AttachesWritten, IsPlanOf, IsToldOf, RefusesWritten, RunsNew};
+
+use crate::files::{is_one_file, keep, streams};
+use jdwp_attach::Attached;
+use jdwp_client::{Client, LimitedPipe, Options};
+use jdwp_client_port::Connection;
+use jdwp_end::{Ended, Pipe, Streams};
+use jdwp_plan::{PlanLine, read_written};
+use jdwp_plan_run::{PlanEnded, PlanVerdict, Unlimited, junit_text, run_plan};
+use jdwp_port::{PortFault, connect};
+use jdwp_program::{
+    Attach, Fault, FileCause, Outcome, SessionFiles, Watched, report_fault, report_plan,
+};
+use jdwp_wire::{Limits, NoMemory};
+use std::alloc::Global;
+use std::io::Write;
+use std::net::Net;
+use std::rt::{Clock, Files};
+use std::{fs, io, str};
+
+/// The text of the bytes of a file where its first line says that it is a plan in words.
+pub(crate) fn written_text(bytes: &[u8]) -> Option<&str>
+    ensures { MatchOption result (λ text. (text.now ≡ bytes.now)
+        × (plans.is_written (lines bytes.now) ≡ true)) (IsUtf8 bytes.now
+        → plans.is_written (lines bytes.now) ≡ false) }
+{
+    match str::from_utf8(bytes) {
+        Ok(text) => {
+            if jdwp_plan::is_written(text) {
+                Some(text)
+            } else {
+                None
+            }
+        }
+        Err(_) => None,
+    }
+}
+
+/// Refuses to tell the test cases of a plan that is not in words, and has none.
+pub(crate) fn without_cases<'a>(words: &Attach<'a>) -> Result<(), Fault<'a>> {
+    match words.junit {
+        Some(cases) => Err(Fault::File(cases, FileCause::NoCases)),
+        None => Ok(()),
+    }
+}
+
+/// Runs the plan in words of this text as the debugger of the session of a file, and tells on `err` why it was not carried out. The plan is
+/// judged before a file is opened.
+///
+/// # Errors
+/// `File` where a file can't be opened or made, or the file of test cases is another of them; `Written` where the plan is refused;
+/// `NoMemory`. Then nothing was printed.
+pub(crate) fn attach_written_files<'a, R: Files + AllocGlobal, O: Write, E: Write>(
+    rt: &R,
+    words: &Attach<'a>,
+    files: &SessionFiles<'a>,
+    text: &str,
+    out: &mut O,
+    err: &mut E,
+) -> Result<Outcome<'a>, Fault<'a>>
+    ensures unprinted { OnErr result (Keeps (O.contents out.old) (O.contents out.new)) }
+{
+    keep_from_cases(rt, words, words.plan)?;
+    keep_from_cases(rt, words, files.from)?;
+    let plan = plan_of(rt.alloc(), words, text)?;
+    let pipe = Unlimited {
+        pipe: streams(rt, files.from, files.to)?,
+    };
+    keep_cases(rt, words, files.to)?;
+    attach_written(rt, words, &plan, pipe, out, err)
+}
+
+/// Runs the plan in words of this text as the debugger of the target that listens at a port, and tells on `err` why it was not carried out.
+///
+/// # Errors
+/// `File` where the file of test cases is the plan's; `Written` where the plan is refused; `Port` where the port can't be reached;
+/// `NoMemory`. Then nothing was printed.
+pub(crate) fn attach_written_port<'a, R: Files + Clock + AllocGlobal + Net, O: Write, E: Write>(
+    rt: &R,
+    words: &Attach<'a>,
+    port: u16,
+    text: &str,
+    out: &mut O,
+    err: &mut E,
+) -> Result<Outcome<'a>, Fault<'a>>
+    ensures unprinted { OnErr result (Keeps (O.contents out.old) (O.contents out.new)) }
+{
+    keep_from_cases(rt, words, words.plan)?;
+    let plan = plan_of(rt.alloc(), words, text)?;
+    let stream = connect(rt, port)?;
+    match Connection::new(rt.alloc(), rt, stream) {
+        Ok(pipe) => attach_written(rt, words, &plan, pipe, out, err),
+        Err(error) => Err(Fault::from(PortFault::of_port(port, error))),
+    }
+}
+
+/// The lines of the plan in words of this text, within the limit of time that the words set.
+fn plan_of<'a>(alloc: Global, words: &Attach<'a>, text: &str) -> Result<Vec<PlanLine>, Fault<'a>>
+    ensures plan { IfOk result (λ plan. IsPlanOf text.now words.now.timeout plan.items) }
+    ensures fault { IfErr result (RefusesWritten words.now.plan text.now) }
+{
+    match read_written(alloc, text) {
+        Ok(plan) => Ok(within(plan, words.timeout)),
+        Err(fault) => Err(Fault::of_written(words.plan, fault)),
+    }
+}
+
+/// The same lines, with a limit of time in place of the first, which says only that the plan is in words.
+fn within(mut plan: Vec<PlanLine>, timeout: Option<u32>) -> Vec<PlanLine>
+    ensures { result.items ≡ written.within timeout plan.items }
+{
+    if let Some(milliseconds) = timeout {
+        if let Some(first) = plan.first_mut() {
+            *first = PlanLine::Timeout(milliseconds);
+        }
+    }
+    plan
+}
+
+/// Refuses a file of test cases that is this one, which is read. No file is opened.
+fn keep_from_cases<'a, R: Files>(rt: &R, words: &Attach<'a>, read: &str) -> Result<(), Fault<'a>> {
+    match words.junit {
+        Some(cases) => keep(rt, cases, read),
+        None => Ok(()),
+    }
+}
+
+/// Refuses a file of test cases that is this one, which the session is written to.
+fn keep_cases<'a, R: Files>(rt: &R, words: &Attach<'a>, to: &str) -> Result<(), Fault<'a>> {
+    match words.junit {
+        Some(cases) if is_one_file(rt, cases, to) => {
+            Err(Fault::File(cases, FileCause::AlsoWritten))
+        }
+        _ => Ok(()),
+    }
+}
+
+/// Runs a plan in words over this pipe, and tells how that ended.
+///
+/// # Errors
+/// `NoMemory`. Then nothing was printed.
+fn attach_written<'a, R: Files + AllocGlobal, P: LimitedPipe + Drop, O: Write, E: Write>(
+    rt: &R,
+    words: &Attach<'a>,
+    plan: &[PlanLine],
+    pipe: P,
+    out: &mut O,
+    err: &mut E,
+) -> Result<Outcome<'a>, Fault<'a>>
+    ensures ran { IfOk result (AttachesWritten P.story words.now plan.now pipe) }
+    ensures unprinted { OnErr result (Keeps (O.contents out.old) (O.contents out.new)) }
+{
+    let mut printed = Streams::new(io::empty(), Watched::new(out));
+    let ended = run_new(rt.alloc(), words, plan, pipe, &mut printed)?;
+    let (_, output) = printed.into_parts();
+    report_plan(rt.alloc(), &ended, err);
+    let are_written = write_cases(rt, words, plan, &ended, err);
+    Ok(outcome_of(ended.verdict(), are_written, words.limits, output.failure()))
+}
+
+/// Runs a plan by a new client over this pipe.
+fn run_new<P: LimitedPipe + Drop, W: Pipe>(
+    alloc: Global,
+    words: &Attach<'_>,
+    plan: &[PlanLine],
+    pipe: P,
+    out: &mut W,
+) -> Result<PlanEnded, NoMemory>
+    ensures ran { IfOk result (λ ended. RunsNew P.story words.now.limits words.now.order plan.now pipe
+        (W.story out.old) ended (W.story out.new)) }
+    ensures unprinted { OnErr result (out.new ≡ out.old) }
+{
+    let mut options = Options::new(words.order);
+    options.limits = words.limits;
+    let client = Client::new(alloc, pipe, options)?;
+    let mut client = Box::new(alloc, client)?;
+    Ok(run_plan(alloc, &mut client, plan, out))
+}
+
+/// Writes the expectations of a run where `--junit` says, and answers whether that could be done or need not be; if not, why is told on `err`.
+fn write_cases<R: Files + AllocGlobal, E: Write>(
+    rt: &R,
+    words: &Attach<'_>,
+    plan: &[PlanLine],
+    ended: &PlanEnded,
+    err: &mut E,
+) -> bool
+    ensures { words.now.junit ≡ None → result ≡ true }
+{
+    let Some(file) = words.junit else {
+        return true;
+    };
+    let Ok(xml) = junit_text(rt.alloc(), words.plan, plan, ended) else {
+        report_fault(&Fault::NoMemory, err);
+        return false;
+    };
+    match fs::write(rt, file, xml.as_bytes()) {
+        Ok(()) => true,
+        Err(error) => {
+            report_fault(&Fault::of_file(file, error), err);
+            false
+        }
+    }
+}
+
+/// What is told of a run within these limits that came to this, whose test cases were written, need not be, or could not, and which printed
+/// on an output that failed with `output`, if it did.
+fn outcome_of<'a>(
+    verdict: PlanVerdict,
+    are_written: bool,
+    limits: Limits,
+    output: Option<io::Error>,
+) -> Outcome<'a>
+    ensures { IsToldOf are_written limits output verdict result }
+{
+    match verdict {
+        PlanVerdict::NotPrinted => {
+            Outcome::without_files(Attached::Ended(Ended::LostByWrite), limits, output)
+        }
+        PlanVerdict::Met if !are_written => Outcome::Planned(PlanVerdict::NotPrinted),
+        verdict => Outcome::Planned(verdict),
+    }
+}
