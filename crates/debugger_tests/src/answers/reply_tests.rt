@@ -1,7 +1,7 @@
 //! Each reply, read as a struct. A field's id has 1 byte, a method's 2, an object's 3, a reference type's 4 and a frame's 5.
 use crate::asserts::expect_same;
 use jdwp_answer::{
-    Children, ClassEntry, FieldEntry, FrameEntry, GenericClass, GenericField, GenericMethod,
+    Capabilities, CapabilitiesNew, Children, ClassEntry, FieldEntry, FrameEntry, GenericClass, GenericField, GenericMethod,
     GenericVariableTable, LineTable, MethodEntry, NamedClass, Reply, Signatures, SizesOfIds,
     TaggedType, ThreadStatus, VariableTable, Version,
 };
@@ -50,6 +50,32 @@ fn of_machines(rt: HostRuntime) {
     let bytes = b"\0\0\0\x01\0\0\0\x02\0\0\0\x03\0\0\0\x04\0\0\0\x05";
     let wanted = "SizesOfIds { field: 1, method: 2, object: 3, reference_type: 4, frame: 5 }";
     is_read::<SizesOfIds>(&rt, alloc, bytes, wanted);
+}
+
+#[test]
+fn capabilities(rt: HostRuntime) {
+    let alloc = rt.alloc();
+    let bytes = b"\x01\0\x02\0\xff\0\0";
+    let wanted = "Capabilities { can_watch_field_modification: true, can_watch_field_access: false, can_get_bytecodes: \
+        true, can_get_synthetic_attribute: false, can_get_owned_monitor_info: true, \
+        can_get_current_contended_monitor: false, can_get_monitor_info: false }";
+    is_read::<Capabilities>(&rt, alloc, bytes, wanted);
+    is_refused::<Capabilities>(&rt, alloc, &bytes[..6], DataFault::Short(6));
+    let bytes = b"\x01\0\0\0\0\0\x01\x01\0\0\0\0\0\0\0\0\0\0\0\0\x01\x01\0\0\0\0\0\0\0\0\0\x01";
+    let wanted = "CapabilitiesNew { can_watch_field_modification: true, can_watch_field_access: false, \
+        can_get_bytecodes: false, can_get_synthetic_attribute: false, can_get_owned_monitor_info: false, \
+        can_get_current_contended_monitor: false, can_get_monitor_info: true, can_redefine_classes: true, \
+        can_add_method: false, can_unrestrictedly_redefine_classes: false, can_pop_frames: false, \
+        can_use_instance_filters: false, can_get_source_debug_extension: false, can_request_vm_death_event: \
+        false, can_set_default_stratum: false, can_get_instance_info: false, can_request_monitor_events: \
+        false, can_get_monitor_frame_info: false, can_use_source_name_filters: false, can_get_constant_pool: \
+        false, can_force_early_return: true, reserved22: true, reserved23: false, reserved24: false, \
+        reserved25: false, reserved26: false, reserved27: false, reserved28: false, reserved29: false, \
+        reserved30: false, reserved31: false, reserved32: true }";
+    is_read::<CapabilitiesNew>(&rt, alloc, bytes, wanted);
+    is_refused::<CapabilitiesNew>(&rt, alloc, &bytes[..31], DataFault::Short(31));
+    let longer = [0; 33];
+    is_refused::<CapabilitiesNew>(&rt, alloc, &longer, DataFault::Extra(32));
 }
 
 #[test]
