@@ -1,6 +1,6 @@
 //! The unnamed module, in which all classes are that the script puts in none (JDWP specification, "ReferenceType": Module, and
 //! "ModuleReference").
-ghost use Rattle.std.specs.Prelude.{◌≡◌, map, option_map, IfOk, IfErr, IsTrue};
+ghost use Rattle.std.specs.Prelude.{◌≡◌, ◌+◌, map, option_map, IfOk, IfErr, IsTrue};
 ghost use Rattle.jdwp_layout.specs.Meanings.{meanings};
 ghost use Rattle.jdwp_machine.specs.Laws.{takes_memory};
 ghost use Rattle.jdwp_script.specs.Meanings.{script_part};
