@@ -381,8 +381,10 @@ static A_STEP_AND_A_BREAKPOINT_REPORT_TOGETHER: [Act; 5] = [
     Act::Counts(Some(1), Some(0)),
 ];
 
-static A_COUNT_AT_ITS_LIMIT_FREEZES_ALL: [Act; 8] = [
+static A_COUNT_AT_ITS_LIMIT_FREEZES_ALL: [Act; 13] = [
+    Act::Still(false),
     Act::Says("0000000b 00000002 00 01 08", "0000000b 00000002 80 0000"),
+    Act::Still(true),
     Act::Says("0000000b 00000003 00 01 08", "0000000b 00000003 80 0000"),
     Act::Says("0000000b 00000004 00 01 08", "0000000b 00000004 80 0071"),
     Act::Counts(Some(2), Some(2)),
@@ -395,18 +397,26 @@ static A_COUNT_AT_ITS_LIMIT_FREEZES_ALL: [Act; 8] = [
         "0000000b 00000006 80 0000",
     ),
     Act::Counts(Some(0), Some(2)),
+    Act::Still(true),
     Act::Steps(1, 1, Stepped::Frozen, ""),
+    Act::Says(
+        "00000013 00000007 00 0b 03 0000000000000002",
+        "0000000b 00000007 80 0000",
+    ),
+    Act::Still(false),
 ];
 
-static HELD_EVENTS_FREEZE_THREADS: [Act; 6] = [
+static HELD_EVENTS_FREEZE_THREADS: [Act; 8] = [
     Act::Says(
         "0000002b 00000002 00 0f 01 02 00 00000001 07 01 000000000000000a 0000000000000014 0000000000000003",
         "0000000f 00000002 80 0000 00000001",
     ),
     Act::Steps(1, 1, Stepped::Quiet, ""),
     Act::Says("0000000b 00000003 00 01 0f", "0000000b 00000003 80 0000"),
+    Act::Still(true),
     Act::Steps(1, 1, Stepped::Frozen, ""),
     Act::Says("0000000b 00000004 00 01 10", "0000000b 00000004 80 0000"),
+    Act::Still(false),
     Act::Steps(
         1,
         1,
@@ -415,17 +425,18 @@ static HELD_EVENTS_FREEZE_THREADS: [Act; 6] = [
     ),
 ];
 
-static AN_EXIT_ENDS_THE_MACHINE: [Act; 4] = [
+static AN_EXIT_ENDS_THE_MACHINE: [Act; 5] = [
     Act::Says(
         "0000000f 00000002 00 01 0a 00000000",
         "0000000b 00000002 80 0000 00000015 00000002 00 40 64 00 00000001 63 00000000",
     ),
     Act::Open(false),
+    Act::Still(true),
     Act::Lives(0),
     Act::Accepts(false),
 ];
 
-static A_DEATH_IS_REPORTED_BEFORE_THE_END: [Act; 8] = [
+static A_DEATH_IS_REPORTED_BEFORE_THE_END: [Act; 9] = [
     Act::Says(
         "00000011 00000002 00 0f 01 07 01 00000000",
         "0000000f 00000002 80 0000 00000001",
@@ -437,6 +448,7 @@ static A_DEATH_IS_REPORTED_BEFORE_THE_END: [Act; 8] = [
         "0000001d 00000002 00 40 64 01 00000001 07 00000001 0000000000000002",
     ),
     Act::Counts(Some(0), Some(1)),
+    Act::Still(false),
     Act::Steps(2, 1, Stepped::Frozen, ""),
     Act::Says(
         "00000013 00000003 00 0b 03 0000000000000002",
@@ -505,6 +517,7 @@ fn waits_for_room(target: &mut Target) -> bool {
     let mut few = [0; 13];
     target.turn() == Ok(Turn::Nothing)
         && target.step(ObjectId(1)) == Ok(Stepped::Frozen)
+        && target.is_still()
         && target.waiting() == 65548
         && target.take(&mut few) == 13
         && target.turn() == Ok(Turn::Replied(3, ErrorCode::NONE))

@@ -68,6 +68,8 @@ pub(crate) enum Act {
     GrantsSoMany(&'static str, u32),
     /// A thread is stepped so many times; each step tells this, and all send these bytes.
     Steps(u64, u32, Stepped, &'static str),
+    /// Whether no thread may step.
+    Still(bool),
     /// It is sent bytes that begin no message.
     Fails(&'static str, FrameFault),
     /// The suspend counts of threads 1 and 2.
@@ -102,6 +104,7 @@ pub(crate) fn comes(rt: &impl Abort, alloc: Global, target: &mut Target, act: &A
         Act::Steps(thread, times, told, output) => steps(
             rt, alloc, target, *thread, *times, *told, output,
         ),
+        Act::Still(still) => target.is_still() == *still,
         Act::Fails(input, fault) => fails(rt, alloc, target, input, *fault),
         Act::Counts(first, second) => {
             target.count(ObjectId(1)) == *first && target.count(ObjectId(2)) == *second
