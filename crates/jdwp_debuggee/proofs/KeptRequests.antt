@@ -6,6 +6,9 @@ use Rattle.std.proofs.lemmas.Bool.{eq-eqb}
 use Rattle.std.proofs.lemmas.Bool.Decides.{nat_tests}
 use Rattle.std.proofs.lemmas.List.{length-append}
 use Rattle.jdwp_wire.specs.declared.error_code.ErrorCode.{ErrorCode}
+use Rattle.jdwp_wire.specs.ErrorCodes.{ILLEGAL_ARGUMENT}
+use Rattle.jdwp_layout.specs.declared.answer.Answer.TheVariants.{Error}
+use Rattle.jdwp_event.specs.Composites.{POLICY_ALL}
 use Rattle.jdwp_layout.specs.Meanings.{ScalarMeaning}
 use Rattle.jdwp_event.specs.Modifiers.{ModifierMeaning, modifiers_of}
 use Rattle.jdwp_event.specs.Requests.{Request, all_asked, new_request}
@@ -20,6 +23,7 @@ use Rattle.jdwp_debuggee.specs.Facts.{AreBelow}
 use Rattle.jdwp_debuggee.specs.Refusals.{LAST_REQUEST, kind_refusal, or_else, room_refusal, set_refusal, unless}
 use Rattle.jdwp_debuggee.specs.Settings.{Settings}
 use Rattle.jdwp_debuggee.specs.State.{Moment, dead}
+use Rattle.jdwp_debuggee.specs.Wants.{early_refusal, late_refusal}
 use Rattle.jdwp_debuggee.proofs.Commands.{does_all, set-sound}
 use Rattle.jdwp_value.specs.declared.id.ObjectId.{ObjectId}
 use Rattle.jdwp_debuggee.proofs.Distinct.{distinct-none}
@@ -105,6 +109,24 @@ carries-set m d byte policy modifiers r k h e entries are =
     record {
       after = λ c. ap (λ (rs : List Request). set_fields d rs) (placed-made m (visiting 0 d) byte policy (modifiers_of entries) r k is) ∙ ap (λ v. at_moment (set_by m d.moment byte policy (modifiers_of entries) v).after d) (sym unrefused);
       answers = λ c. ap (λ v. (set_by m d.moment byte policy (modifiers_of entries) v).answer) (sym unrefused);
+    }
+
+-- a request that is refused behind its kind, its policy and room changes nothing
+late-is : (a b c late : Option ErrorCode) → or_else a (or_else b c) ≡ None → or_else a (or_else b (or_else c late)) ≡ late
+late-is None None None late h = refl
+late-is None None (Some x) late h = absurd (cc)
+late-is None (Some x) c late h = absurd (cc)
+late-is (Some x) b c late h = absurd (cc)
+
+pub carries-refused : {S : Type 0} (m : Meaning S) (d : Debuggee S) (byte policy : ℕ) (modifiers : List ModifierMeaning) (e : ErrorCode) → early_refusal d.settings d.moment.state byte policy ≡ None → Some e ≡ late_refusal m d.moment byte modifiers
+    → (entries : List (List ScalarMeaning)) → modifiers ≡ modifiers_of entries → CarriesOut m (Actions.SetRequest byte policy entries) d d (Error e)
+carries-refused m d byte policy modifiers e early late entries are =
+    let told : Some e ≡ late_refusal m d.moment byte (modifiers_of entries) = rw are at late in
+    let refused : set_refusal m d.settings d.moment byte policy (modifiers_of entries) ≡ Some e =
+    late-is (kind_refusal d.settings.profile byte) (unless (nat_le policy POLICY_ALL) ILLEGAL_ARGUMENT) (room_refusal d.settings d.moment.state) (late_refusal m d.moment byte (modifiers_of entries)) early ∙ sym told in
+    record {
+      after = λ c. ap (λ v. at_moment (set_by m d.moment byte policy (modifiers_of entries) v).after d) (sym refused);
+      answers = λ c. ap (λ v. (set_by m d.moment byte policy (modifiers_of entries) v).answer) (sym refused);
     }
 
 -- ---- Exit
