@@ -1,11 +1,12 @@
 //! The unnamed module, in which all classes are that the script puts in none (JDWP specification, "ReferenceType": Module, and
 //! "ModuleReference").
-ghost use Rattle.std.specs.Prelude.{◌≡◌, ◌+◌, map, option_map, IfOk, IfErr, IsTrue};
-ghost use Rattle.jdwp_layout.specs.Meanings.{meanings};
+ghost use Rattle.std.specs.Prelude.{◌≡◌, ◌+◌, ◌++◌, map, option_map, IfOk, IfErr, IsTrue};
+ghost use Rattle.jdwp_layout.specs.Meanings.{entry_meanings, meanings};
 ghost use Rattle.jdwp_machine.specs.Laws.{takes_memory};
 ghost use Rattle.jdwp_script.specs.Meanings.{script_part};
+ghost use Rattle.jdwp_script_machine.specs.ClassAnswers.{module_entry};
 ghost use Rattle.jdwp_script_machine.specs.Found.{found};
-ghost use Rattle.jdwp_script_machine.specs.JdiAnswers.{any_loader_answer, any_name_answer, every_module, fitting, greatest_id, last_id, module_or_unnamed, unnamed_asked, unnamed_module};
+ghost use Rattle.jdwp_script_machine.specs.JdiAnswers.{any_loader_answer, any_name_answer, every_module, fitting, greatest_id, last_id, module_or_unnamed, unnamed_asked, unnamed_entries, unnamed_module};
 ghost use Rattle.jdwp_script_machine.specs.StateMeanings.{state_now};
 
 use crate::look_ups::Numbered;
@@ -75,17 +76,40 @@ pub(crate) fn every_module(alloc: Global, script: &Script) -> Result<Answer, NoM
     ensures memory { IfErr result (λ _.
         IsTrue (takes_memory (every_module (script_part script.now)))) }
 {
-    let mut entries = Vec::new(alloc);
-    for entry in &script.modules {
-        let id = object_entry(alloc, entry.id)?;
-        entries.push(id)?;
-    }
+    let named = module_entries(alloc, script)?;
     let unnamed = unnamed_module(script);
-    if unnamed.0 != 0 {
-        let id = object_entry(alloc, unnamed)?;
-        entries.push(id)?;
-    }
+    let entries = with_unnamed(alloc, named, unnamed)?;
     of_entries(alloc, entries)
+}
+
+/// The entries of the modules that the script has.
+fn module_entries(alloc: Global, script: &Script) -> Result<Vec<Vec<Scalar>>, NoMemory>
+    ensures { IfOk result (λ entries. entry_meanings entries.items
+        ≡ map module_entry (script_part script.now).modules) }
+{
+    let mut entries = Vec::new(alloc);
+    for part in &script.modules {
+        let entry = object_entry(alloc, part.id)?;
+        entries.push(entry)?;
+    }
+    Ok(entries)
+}
+
+/// These entries, and behind them that of the unnamed module, where there is one.
+fn with_unnamed(
+    alloc: Global,
+    mut entries: Vec<Vec<Scalar>>,
+    unnamed: ObjectId,
+) -> Result<Vec<Vec<Scalar>>, NoMemory>
+    ensures { IfOk result (λ all. entry_meanings all.items
+        ≡ entry_meanings entries.items ++ unnamed_entries unnamed.0) }
+{
+    if unnamed.0 == 0 {
+        return Ok(entries);
+    }
+    let entry = object_entry(alloc, unnamed)?;
+    entries.push(entry)?;
+    Ok(entries)
 }
 
 /// The data behind the unnamed module's id, where they begin with it.
