@@ -147,11 +147,7 @@ static SILENCES: [(&str, u8, &str); 3] = [
         5,
         "jdwp: line 2 of the plan was not reached: the beginning of the session did not come in time, and the session is lost\n",
     ),
-    (
-        "plan 2\n\ntimeout 20\nmay end\nwait event\n",
-        0,
-        "",
-    ),
+    ("plan 2\n\ntimeout 20\nmay end\nwait event\n", 0, ""),
     ("plan 2\n# nothing is asked\nmirror\n", 0, ""),
 ];
 
@@ -175,8 +171,9 @@ fn a_target_that_is_silent_is_given_up(rt: HostRuntime) {
         is_run(&rt, &words, status, "", told);
     }
     write(&rt, "silent_plan", b"ask 1 8\n");
-    let told =
-        format!(in rt.alloc(); "jdwp: port {port}: nothing came for 30 ms\n").expect(&rt, "memory");
+    let told = format!(in rt.alloc(); "jdwp: port {port}: nothing came for 30 ms\n").expect(
+        &rt, "memory",
+    );
     is_run(&rt, &words, 2, "", told.as_str());
     remove(&rt, &["silent_plan"]);
 }

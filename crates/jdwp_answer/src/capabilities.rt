@@ -39,9 +39,23 @@ impl Record for Capabilities {
     ghost fields = { λ c. booleans (c.can_watch_field_modification ∷ c.can_watch_field_access ∷ c.can_get_bytecodes ∷ c.can_get_synthetic_attribute ∷ c.can_get_owned_monitor_info ∷ c.can_get_current_contended_monitor ∷ c.can_get_monitor_info ∷ []) };
 
     fn of_fields(_alloc: Global, scalars: Vec<Scalar>) -> Option<Capabilities> {
-        let [can_watch_field_modification, can_watch_field_access, can_get_bytecodes, can_get_synthetic_attribute, can_get_owned_monitor_info, can_get_current_contended_monitor, can_get_monitor_info] = truths_of::<7>(scalars)?;
+        let [
+            can_watch_field_modification,
+            can_watch_field_access,
+            can_get_bytecodes,
+            can_get_synthetic_attribute,
+            can_get_owned_monitor_info,
+            can_get_current_contended_monitor,
+            can_get_monitor_info,
+        ] = truths_of::<7>(scalars)?;
         Some(Capabilities {
-            can_watch_field_modification, can_watch_field_access, can_get_bytecodes, can_get_synthetic_attribute, can_get_owned_monitor_info, can_get_current_contended_monitor, can_get_monitor_info,
+            can_watch_field_modification,
+            can_watch_field_access,
+            can_get_bytecodes,
+            can_get_synthetic_attribute,
+            can_get_owned_monitor_info,
+            can_get_current_contended_monitor,
+            can_get_monitor_info,
         })
     }
 
@@ -139,9 +153,73 @@ impl Record for CapabilitiesNew {
     ghost fields = { λ c. booleans (c.can_watch_field_modification ∷ c.can_watch_field_access ∷ c.can_get_bytecodes ∷ c.can_get_synthetic_attribute ∷ c.can_get_owned_monitor_info ∷ c.can_get_current_contended_monitor ∷ c.can_get_monitor_info ∷ c.can_redefine_classes ∷ c.can_add_method ∷ c.can_unrestrictedly_redefine_classes ∷ c.can_pop_frames ∷ c.can_use_instance_filters ∷ c.can_get_source_debug_extension ∷ c.can_request_vm_death_event ∷ c.can_set_default_stratum ∷ c.can_get_instance_info ∷ c.can_request_monitor_events ∷ c.can_get_monitor_frame_info ∷ c.can_use_source_name_filters ∷ c.can_get_constant_pool ∷ c.can_force_early_return ∷ c.reserved22 ∷ c.reserved23 ∷ c.reserved24 ∷ c.reserved25 ∷ c.reserved26 ∷ c.reserved27 ∷ c.reserved28 ∷ c.reserved29 ∷ c.reserved30 ∷ c.reserved31 ∷ c.reserved32 ∷ []) };
 
     fn of_fields(_alloc: Global, scalars: Vec<Scalar>) -> Option<CapabilitiesNew> {
-        let [can_watch_field_modification, can_watch_field_access, can_get_bytecodes, can_get_synthetic_attribute, can_get_owned_monitor_info, can_get_current_contended_monitor, can_get_monitor_info, can_redefine_classes, can_add_method, can_unrestrictedly_redefine_classes, can_pop_frames, can_use_instance_filters, can_get_source_debug_extension, can_request_vm_death_event, can_set_default_stratum, can_get_instance_info, can_request_monitor_events, can_get_monitor_frame_info, can_use_source_name_filters, can_get_constant_pool, can_force_early_return, reserved22, reserved23, reserved24, reserved25, reserved26, reserved27, reserved28, reserved29, reserved30, reserved31, reserved32] = truths_of::<32>(scalars)?;
+        let [
+            can_watch_field_modification,
+            can_watch_field_access,
+            can_get_bytecodes,
+            can_get_synthetic_attribute,
+            can_get_owned_monitor_info,
+            can_get_current_contended_monitor,
+            can_get_monitor_info,
+            can_redefine_classes,
+            can_add_method,
+            can_unrestrictedly_redefine_classes,
+            can_pop_frames,
+            can_use_instance_filters,
+            can_get_source_debug_extension,
+            can_request_vm_death_event,
+            can_set_default_stratum,
+            can_get_instance_info,
+            can_request_monitor_events,
+            can_get_monitor_frame_info,
+            can_use_source_name_filters,
+            can_get_constant_pool,
+            can_force_early_return,
+            reserved22,
+            reserved23,
+            reserved24,
+            reserved25,
+            reserved26,
+            reserved27,
+            reserved28,
+            reserved29,
+            reserved30,
+            reserved31,
+            reserved32,
+        ] = truths_of::<32>(scalars)?;
         Some(CapabilitiesNew {
-            can_watch_field_modification, can_watch_field_access, can_get_bytecodes, can_get_synthetic_attribute, can_get_owned_monitor_info, can_get_current_contended_monitor, can_get_monitor_info, can_redefine_classes, can_add_method, can_unrestrictedly_redefine_classes, can_pop_frames, can_use_instance_filters, can_get_source_debug_extension, can_request_vm_death_event, can_set_default_stratum, can_get_instance_info, can_request_monitor_events, can_get_monitor_frame_info, can_use_source_name_filters, can_get_constant_pool, can_force_early_return, reserved22, reserved23, reserved24, reserved25, reserved26, reserved27, reserved28, reserved29, reserved30, reserved31, reserved32,
+            can_watch_field_modification,
+            can_watch_field_access,
+            can_get_bytecodes,
+            can_get_synthetic_attribute,
+            can_get_owned_monitor_info,
+            can_get_current_contended_monitor,
+            can_get_monitor_info,
+            can_redefine_classes,
+            can_add_method,
+            can_unrestrictedly_redefine_classes,
+            can_pop_frames,
+            can_use_instance_filters,
+            can_get_source_debug_extension,
+            can_request_vm_death_event,
+            can_set_default_stratum,
+            can_get_instance_info,
+            can_request_monitor_events,
+            can_get_monitor_frame_info,
+            can_use_source_name_filters,
+            can_get_constant_pool,
+            can_force_early_return,
+            reserved22,
+            reserved23,
+            reserved24,
+            reserved25,
+            reserved26,
+            reserved27,
+            reserved28,
+            reserved29,
+            reserved30,
+            reserved31,
+            reserved32,
         })
     }
 

@@ -22,9 +22,9 @@ next-one ids t last None n = elim (cases_Bool (is_above last t)) [
 ]
 next-one ids t last (Some next) n = elim (cases_Bool (is_above last t)) [
   | inl above ↦ elim (cases_lt next t) [
-      | inl less ↦ (Some next, next-kept ids t next last (omega (arith, less)) n)
-      | inr more ↦ (Some t, next-nearer ids t next last above more n)
-    ]
+    | inl less ↦ (Some next, next-kept ids t next last (omega (arith, less)) n)
+    | inr more ↦ (Some t, next-nearer ids t next last above more n)
+  ]
   | inr below ↦ (Some next, next-below ids t last (Some next) below n)
 ]
 

@@ -1,9 +1,9 @@
 //! Each reply, read as a struct. A field's id has 1 byte, a method's 2, an object's 3, a reference type's 4 and a frame's 5.
 use crate::asserts::expect_same;
 use jdwp_answer::{
-    Capabilities, CapabilitiesNew, Children, ClassEntry, FieldEntry, FrameEntry, GenericClass, GenericField, GenericMethod,
-    GenericVariableTable, LineTable, MethodEntry, NamedClass, Reply, Signatures, SizesOfIds,
-    TaggedType, ThreadStatus, VariableTable, Version,
+    Capabilities, CapabilitiesNew, Children, ClassEntry, FieldEntry, FrameEntry, GenericClass,
+    GenericField, GenericMethod, GenericVariableTable, LineTable, MethodEntry, NamedClass, Reply,
+    Signatures, SizesOfIds, TaggedType, ThreadStatus, VariableTable, Version,
 };
 use jdwp_layout::{Data, read};
 use jdwp_value::{ObjectId, ReferenceTypeId, TaggedId};
@@ -56,13 +56,15 @@ fn of_machines(rt: HostRuntime) {
 fn capabilities(rt: HostRuntime) {
     let alloc = rt.alloc();
     let bytes = b"\x01\0\x02\0\xff\0\0";
-    let wanted = "Capabilities { can_watch_field_modification: true, can_watch_field_access: false, can_get_bytecodes: \
+    let wanted =
+        "Capabilities { can_watch_field_modification: true, can_watch_field_access: false, can_get_bytecodes: \
         true, can_get_synthetic_attribute: false, can_get_owned_monitor_info: true, \
         can_get_current_contended_monitor: false, can_get_monitor_info: false }";
     is_read::<Capabilities>(&rt, alloc, bytes, wanted);
     is_refused::<Capabilities>(&rt, alloc, &bytes[..6], DataFault::Short(6));
     let bytes = b"\x01\0\0\0\0\0\x01\x01\0\0\0\0\0\0\0\0\0\0\0\0\x01\x01\0\0\0\0\0\0\0\0\0\x01";
-    let wanted = "CapabilitiesNew { can_watch_field_modification: true, can_watch_field_access: false, \
+    let wanted =
+        "CapabilitiesNew { can_watch_field_modification: true, can_watch_field_access: false, \
         can_get_bytecodes: false, can_get_synthetic_attribute: false, can_get_owned_monitor_info: false, \
         can_get_current_contended_monitor: false, can_get_monitor_info: true, can_redefine_classes: true, \
         can_add_method: false, can_unrestrictedly_redefine_classes: false, can_pop_frames: false, \
