@@ -470,8 +470,8 @@ const ALSO_READ: Tells = Tells::All(&[
     "./same: a file that is read, too: writing to it would empty it\n",
 ]);
 
-/// Words whose file of `--to` is one that is read, by the same name and by another.
-static SAME_FILES: [Scene; 8] = [
+/// Words whose file of `--to` or `--junit` is another of theirs, by the same name and by another.
+static SAME_FILES: [Scene; 12] = [
     Scene {
         files: SAME,
         words: "serve-script same --from other --to same",
@@ -518,6 +518,54 @@ static SAME_FILES: [Scene; 8] = [
         ]),
         keeps: KEPT,
         spares: &["other"],
+        ..SCENE
+    },
+    Scene {
+        files: SAME,
+        words: "attach same --from other --to third --junit same",
+        status: 1,
+        tells: Tells::All(&[
+            "error: '--junit' names the file of 'PLAN': writing to it would empty it",
+            "Usage: jdwp ",
+        ]),
+        keeps: KEPT,
+        spares: &["other", "third"],
+        ..SCENE
+    },
+    Scene {
+        files: SAME,
+        words: "attach same --port 1 --junit=same",
+        status: 1,
+        tells: Tells::All(&[
+            "error: '--junit' names the file of 'PLAN': writing to it would empty it",
+            "Usage: jdwp ",
+        ]),
+        keeps: KEPT,
+        spares: &["other", "third"],
+        ..SCENE
+    },
+    Scene {
+        files: SAME,
+        words: "attach other --from same --to third --junit same",
+        status: 1,
+        tells: Tells::All(&[
+            "error: '--junit' names the file of '--from': writing to it would empty it",
+            "Usage: jdwp ",
+        ]),
+        keeps: KEPT,
+        spares: &["other", "third"],
+        ..SCENE
+    },
+    Scene {
+        files: SAME,
+        words: "attach same --from other --to third --junit third",
+        status: 1,
+        tells: Tells::All(&[
+            "error: '--junit' names the file of '--to': writing to it would empty it",
+            "Usage: jdwp ",
+        ]),
+        keeps: KEPT,
+        spares: &["other", "third"],
         ..SCENE
     },
     Scene {

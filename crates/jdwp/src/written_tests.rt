@@ -102,21 +102,39 @@ fn expectations_are_written(rt: HostRuntime) {
     is_run(&rt, &words, 0, PRINTED, "");
     file_holds(&rt, to, &SESSION);
     file_holds(&rt, cases, CASES.as_bytes());
-    let same = ["attach", plan, "--from", from, "--to", to, "--junit", plan];
+    let same = [
+        "attach",
+        plan,
+        "--from",
+        from,
+        "--to",
+        to,
+        "--junit",
+        "./cases_plan",
+    ];
     is_run(
         &rt,
         &same,
         1,
         "",
-        "jdwp: cases_plan: a file that is read, too: writing to it would empty it\n",
+        "jdwp: ./cases_plan: a file that is read, too: writing to it would empty it\n",
     );
-    let twice = ["attach", plan, "--from", from, "--to", to, "--junit", to];
+    let twice = [
+        "attach",
+        plan,
+        "--from",
+        from,
+        "--to",
+        to,
+        "--junit",
+        "./cases_to",
+    ];
     is_run(
         &rt,
         &twice,
         1,
         "",
-        "jdwp: cases_to: a file that is written to already\n",
+        "jdwp: ./cases_to: a file that is written to already\n",
     );
     let folder = ["attach", plan, "--from", from, "--to", to, "--junit", "."];
     is_run(&rt, &folder, 2, PRINTED, "jdwp: .: a folder, not a file\n");

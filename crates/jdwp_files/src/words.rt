@@ -10,8 +10,8 @@ use jdwp_debuggee::Settings;
 use jdwp_debugger::Order;
 use jdwp_machine::Profile;
 use jdwp_program::{
-    Attach, Between, CaptureFile, Fault, Pair, Peer, ServeScript, SessionFiles, VERSION, Words,
-    decimal, is_all, limits, order, profile,
+    Attach, Between, CaptureFile, Emptied, Fault, Pair, Peer, ServeScript, SessionFiles, VERSION,
+    Words, decimal, is_all, limits, order, profile,
 };
 use jdwp_wire::Limits;
 use jdwp_wire::number::GREATEST_INT;
@@ -171,8 +171,8 @@ static OF_PAIR: [Part; 8] = [
 /// Reads the words, the first of which is the program's name.
 ///
 /// # Errors
-/// `Words` where they are no command, an option is unknown, stands twice or has no such value, the file of `--to` is named as one that is
-/// read, or help is asked for. `NoMemory` where an allocation was refused.
+/// `Words` where they are no command, an option is unknown, stands twice or has no such value, the file of `--to` or `--junit` is named as
+/// another of them, or help is asked for. `NoMemory` where an allocation was refused.
 pub fn read<'a, S: AsStr>(alloc: Global, words: &'a [S]) -> Result<Words<'a>, Fault<'a>>
     ensures runs { IfOk result (RunsPlanOnlyWhere (commands.runs_plan S.text words.now)) }
     ensures keeps { IfOk result KeepsFiles }
@@ -180,7 +180,7 @@ pub fn read<'a, S: AsStr>(alloc: Global, words: &'a [S]) -> Result<Words<'a>, Fa
     let said = say(alloc, words)?;
     match said.emptied() {
         None => Ok(said),
-        Some(file) => Err(emptying(alloc, file, name_of(&said))),
+        Some(emptied) => Err(emptying(alloc, emptied, name_of(&said))),
     }
 }
 
@@ -207,17 +207,19 @@ fn name_of(words: &Words<'_>) -> Name {
     }
 }
 
-/// The file of `--to` is named as this one, which is read.
-fn emptying<'a>(alloc: Global, file: &str, of: Name) -> Fault<'a> {
-    match emptying_message(alloc, file) {
+/// A file is written to that is read, or written to for something else.
+fn emptying<'a>(alloc: Global, emptied: Emptied, of: Name) -> Fault<'a> {
+    match emptying_message(alloc, emptied) {
         Ok(message) => bad_words(alloc, named_in_full(alloc, of), message.as_str()),
         Err(_) => Fault::NoMemory,
     }
 }
 
-/// That the file of `--to` would be emptied before it is read.
-fn emptying_message(alloc: Global, file: &str) -> Result<String, AllocError> {
-    format!(in alloc; "'--to' names the file of '{file}': writing to it would empty it")
+/// That a file would be emptied.
+fn emptying_message(alloc: Global, emptied: Emptied) -> Result<String, AllocError> {
+    let option = emptied.option;
+    let file = emptied.file;
+    format!(in alloc; "'{option}' names the file of '{file}': writing to it would empty it")
 }
 
 /// The command that clap found in the words.

@@ -5,7 +5,7 @@ ghost use Rattle.std.specs.Str.{IsUtf8};
 ghost use Rattle.std.specs.Str.Lines.{lines};
 ghost use Rattle.jdwp_plan.specs.Plans as plans;
 ghost use Rattle.jdwp_files.specs.Written as written;
-ghost use Rattle.jdwp_files.specs.Written.{AttachesWritten, IsPlanOf, IsToldOf, RefusesWritten, RunsNew};
+ghost use Rattle.jdwp_files.specs.Written.{AttachesWritten, IsPlanOf, IsToldOf, RefusesWritten, RunsNew, new_client};
 
 use crate::files::{is_one_file, keep, streams};
 use jdwp_attach::Attached;
@@ -177,11 +177,30 @@ fn run_new<P: LimitedPipe + Drop, W: Pipe>(
         (W.story out.old) ended (W.story out.new)) }
     ensures unprinted { OnErr result (out.new ≡ out.old) }
 {
-    let mut options = Options::new(words.order);
-    options.limits = words.limits;
-    let client = Client::new(alloc, pipe, options)?;
-    let mut client = Box::new(alloc, client)?;
+    let mut client = client_over(alloc, words, pipe)?;
     Ok(run_plan(alloc, &mut client, plan, out))
+}
+
+/// How many composites a client keeps that no line has waited for.
+const MOST_EVENTS: usize = 1_024;
+
+/// A new client over this pipe, as the words say, on the heap.
+fn client_over<P: LimitedPipe + Drop>(
+    alloc: Global,
+    words: &Attach<'_>,
+    pipe: P,
+) -> Result<Box<Client<P>>, NoMemory>
+    ensures { IfOk result (λ client. client.value
+        ≡ new_client words.now.limits words.now.order pipe) }
+{
+    let options = Options {
+        order: words.order,
+        limits: words.limits,
+        first_id: 1,
+        most_events: MOST_EVENTS,
+    };
+    let client = Client::new(alloc, pipe, options)?;
+    Ok(Box::new(alloc, client)?)
 }
 
 /// Writes the expectations of a run where `--junit` says, and answers whether that could be done or need not be; if not, why is told on `err`.

@@ -29,4 +29,6 @@ pub use outcome::{Outcome, report_fault, report_outcome, report_plan};
 pub use recordings::{Recorded, report_connections, session_of};
 pub use values::{decimal, is_all, limits, order, profile};
 pub use version::{VERSION, tell_version};
-pub use words::{Attach, Between, CaptureFile, Pair, Peer, ServeScript, SessionFiles, Words};
+pub use words::{
+    Attach, Between, CaptureFile, Emptied, Pair, Peer, ServeScript, SessionFiles, Words,
+};

@@ -1,6 +1,6 @@
 //! What the words of the command line say.
 ghost use Rattle.std.specs.Prelude.{◌≡◌, ◌↔◌, None};
-ghost use Rattle.jdwp_program.specs.Words.{KeepsFile, KeepsFiles};
+ghost use Rattle.jdwp_program.specs.Words.{KeepsFile, KeepsFiles, KeepsFromCases};
 
 use jdwp_debuggee::Settings;
 use jdwp_debugger::Order;
@@ -121,14 +121,27 @@ pub enum Between {
     Loopback,
 }
 
+/// A file that words write to, though they read it, or write to it for something else.
+#[derive(Clone, Copy, Debug, PartialEq, Eq)]
+pub struct Emptied {
+    /// The option behind which it is written to.
+    pub option: &'static str,
+    /// The word that stands for it elsewhere.
+    pub file: &'static str,
+}
+
 impl Words<'_> {
-    /// Which of the files that are read the words also write to, by the word that stands for it; None where they keep them all.
-    pub fn emptied(&self) -> Option<&'static str>
+    /// A file that the words write to and is one of those that they read, or is written to for something else; None where they keep them
+    /// all apart, by name.
+    pub fn emptied(&self) -> Option<Emptied>
         ensures { (result ≡ None) ↔ KeepsFiles self.now }
     {
         match self {
             Words::ServeScript(words) => words.peer.emptied(words.machine, "MACHINE"),
-            Words::Attach(words) => words.peer.emptied(words.plan, "PLAN"),
+            Words::Attach(words) => match words.peer.emptied(words.plan, "PLAN") {
+                None => words.peer.emptied_by_cases(words.junit, words.plan),
+                emptied => emptied,
+            },
             Words::Pair(_)
             | Words::Show(_)
             | Words::Check(_)
@@ -140,13 +153,36 @@ impl Words<'_> {
 
 impl Peer<'_> {
     /// The same of one file, which the words of the command name so, and of what is read from the other end.
-    fn emptied(&self, read: &str, name: &'static str) -> Option<&'static str>
+    fn emptied(&self, read: &str, name: &'static str) -> Option<Emptied>
         ensures { (result ≡ None) ↔ KeepsFile self.now read.now }
     {
         match self {
-            Peer::Files(files) if files.to == read => Some(name),
-            Peer::Files(files) if files.to == files.from => Some("--from"),
+            Peer::Files(files) if files.to == read => Some(Emptied {
+                option: "--to",
+                file: name,
+            }),
+            Peer::Files(files) if files.to == files.from => Some(Emptied {
+                option: "--to",
+                file: "--from",
+            }),
             Peer::Files(_) | Peer::Port(_) => None,
         }
+    }
+
+    /// The same of the file that test cases are written to, if there is one, and of a plan that is read.
+    fn emptied_by_cases(&self, cases: Option<&str>, read: &str) -> Option<Emptied>
+        ensures { (result ≡ None) ↔ KeepsFromCases cases.entry self.now read.now }
+    {
+        let cases = cases?;
+        let file = match self {
+            _ if cases == read => "PLAN",
+            Peer::Files(files) if cases == files.from => "--from",
+            Peer::Files(files) if cases == files.to => "--to",
+            Peer::Files(_) | Peer::Port(_) => return None,
+        };
+        Some(Emptied {
+            option: "--junit",
+            file,
+        })
     }
 }
