@@ -148,7 +148,7 @@ fn other_plans_have_no_expectations(rt: HostRuntime) {
     write(&rt, plan, b"ask 1 8\n");
     write(&rt, from, &ANSWERS);
     let told =
-        "jdwp: other.xml: only a plan in words, whose first line is `plan 2`, has test cases\n";
+        "jdwp: other.xml: only a plan in words, whose first line is `plan 2`, has expectations\n";
     let words = ["attach", plan, "--from", from, "--to", to, "--junit", cases];
     is_run(&rt, &words, 1, "", told);
     let words = ["attach", plan, "--port", "1", "--junit", cases];

@@ -78,7 +78,7 @@ pub enum FileCause {
     #[error("a file that is written to already")]
     AlsoWritten,
     /// It is to hold the test cases of a plan that has none.
-    #[error("only a plan in words, whose first line is `plan 2`, has test cases")]
+    #[error("only a plan in words, whose first line is `plan 2`, has expectations")]
     NoCases,
     /// Another cause, as the system tells it.
     #[error("{0}")]
