@@ -33,7 +33,7 @@ use Rattle.jdwp_wire.specs.Limits.{Limits}
 abbrev pub within : Option ℕ → List PlanLine → List PlanLine
 within None plan = plan
 within (Some milliseconds) [] = []
-within (Some milliseconds) (version ∷ lines) = Timeout milliseconds ∷ lines
+within (Some milliseconds) (first ∷ later) = Timeout milliseconds ∷ later
 
 -- these lines are those of a text, within this limit
 pub record IsPlanOf (text : List ℕ) (timeout : Option ℕ) (plan : List PlanLine) : Type 0 where

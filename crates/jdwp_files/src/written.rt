@@ -27,9 +27,8 @@ use std::{fs, io, str};
 
 /// The text of the bytes of a file where its first line says that it is a plan in words.
 pub(crate) fn written_text(bytes: &[u8]) -> Option<&str>
-    ensures { MatchOption result (λ text. (text.now ≡ bytes.now)
-        × (plans.is_written (lines bytes.now) ≡ true)) (IsUtf8 bytes.now
-        → plans.is_written (lines bytes.now) ≡ false) }
+    ensures { MatchOption result (IsUtf8 bytes.now → plans.is_written (lines bytes.now) ≡ false)
+        (λ text. (text.now ≡ bytes.now) × (plans.is_written (lines bytes.now) ≡ true)) }
 {
     match str::from_utf8(bytes) {
         Ok(text) => {
