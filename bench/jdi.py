@@ -26,7 +26,7 @@ from examples import free_port, is_listening
 
 MACHINE = os.path.join(jvm.ROOT, "examples", "debug.json")
 PATIENCE = 15  # seconds
-PROMPT = re.compile(r"(?:^|\n)(?:>|[\w-]+\[\d+\]) $")
+PROMPT = re.compile(r"(?:^|\n)(?:(?:>|[\w-]+\[\d+\]) )+$")  # jdb may print it twice
 IDS = ((re.compile(r"0x[0-9a-f]+"), "#"), (re.compile(r"(?<=\))\d+"), "#"), (re.compile(r"\(id=\d+\)"), "(id=#)"), (re.compile(r"instance of ([\w.\[\]]+) ?\(id=#\)"), r"instance of \1(id=#)"))
 
 # what is said to jdb, and a text that it then prints, among others
