@@ -1,0 +1,9 @@
+pub mod SameLaws
+pub mod ToldLaws
+pub mod AskingLaws
+pub mod TellingLaws
+pub mod HearingLaws
+pub mod ComingLaws
+pub mod SessionLaws
+pub mod HeldLaws
+pub mod WordLaws
