@@ -1,0 +1,4 @@
+pub mod Faults
+pub mod Halves
+pub mod Naming
+pub mod Recorders

@@ -1,0 +1,4 @@
+pub mod Pieces
+pub mod Passing
+pub mod Recording
+pub mod ReadingBack

@@ -1,0 +1,7 @@
+pub mod Flows
+pub mod LineText
+pub mod Spans
+pub mod Passages
+pub mod Ducts
+pub mod Captures
+pub mod Relays
