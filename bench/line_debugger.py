@@ -1,14 +1,15 @@
 #!/usr/bin/env python3
-"""The example debugger, crates/line_debugger, at two targets at a port: the scripted machine of crates/line_debugger/data/adding.json, served live by
+"""The example debuggers, crates/line_debugger and crates/frames_at, at two targets at a port: the scripted machine of crates/line_debugger/data/adding.json, served live by
 `serve-script --live --port 0`, and a JVM that runs Adding.java, whose lines and variables are the same, where a JDK is there.
 
 Each session gets the same command lines, and has to print the same: only ids of objects and the threads beside `main` may be others. Ten sessions are begun
-at a JVM each, since its VM_START may come before or behind the first commands. Prints a line for each target, and the status is 1 where one is not as it has
-to be.
+at a JVM each, since its VM_START may come before or behind the first commands. Then `frames_at` stops at the first method of the class, in a session of its
+own at each. Prints a line for each target, and the status is 1 where one is not as it has to be.
 
-    bench/line_debugger.py [DEBUGGER] [PROGRAM]
+    bench/line_debugger.py [DEBUGGER] [FRAMES_AT] [PROGRAM]
 
-DEBUGGER is crates/line_debugger/out/line_debugger and PROGRAM crates/jdwp/out/jdwp where none is given; `rt run` in those folders builds them.
+DEBUGGER is crates/line_debugger/out/line_debugger, FRAMES_AT crates/frames_at/out/frames_at and PROGRAM crates/jdwp/out/jdwp where none is given; `rt run` in
+those folders builds them.
 """
 
 import os
@@ -68,8 +69,14 @@ def differences(lines):
     return [] if lines == wanted else [f"printed {lines}", f"wanted  {wanted}"]
 
 
-def judge(name, lines):
-    found = differences(lines)
+def frames(frames_at, port):
+    """What `frames_at` prints at a port, and should not: it has to name the thread, that it is suspended, and one frame."""
+    ran = subprocess.run([frames_at, f"127.0.0.1:{port}", "Adding"], capture_output=True, text=True, timeout=PATIENCE, check=False)
+    is_fine = re.fullmatch(r"main is suspended: true\nAt \{ .* \}\n", ran.stdout)
+    return [] if is_fine and ran.returncode == 0 else [f"status {ran.returncode}", ran.stdout, ran.stderr]
+
+
+def judge(name, found):
     print(f"{name}: {'as it has to be' if not found else 'NOT as it has to be'}", *found, sep="\n  ", flush=True)
     return not found
 
@@ -95,19 +102,25 @@ class Served:
 
 def main():
     words = [os.path.abspath(word) for word in sys.argv[1:]]
-    places = [os.path.join(ROOT, "crates", name, "out", name) for name in ("line_debugger", "jdwp")]
-    debugger, program = [*words, *places[len(words) :]]
+    places = [os.path.join(ROOT, "crates", name, "out", name) for name in ("line_debugger", "frames_at", "jdwp")]
+    debugger, frames_at, program = [*words, *places[len(words) :]]
+    fine = True
     with Served([program, "serve-script", SCRIPT, "--port", "0", "--live"]) as target:
-        fine = judge("the scripted machine", printed(debugger, target.port))
+        fine &= judge("the scripted machine", differences(printed(debugger, target.port)))
+    with Served([program, "serve-script", SCRIPT, "--port", "0", "--live"]) as target:
+        fine &= judge("the scripted machine, frames", frames(frames_at, target.port))
     if not shutil.which("javac"):
         print("no JDK: the JVM is left out")
         sys.exit(not fine)
     with tempfile.TemporaryDirectory() as classes:
         subprocess.run(["javac", "-g", "-d", classes, JAVA], check=True)
+        agent = "-agentlib:jdwp=transport=dt_socket,server=y,suspend=y,address=127.0.0.1:0"
+        java = ["java", "-Xmx64m", "-XX:+UseSerialGC", agent, "-cp", classes, "Adding"]
         for session in range(SESSIONS):
-            agent = "-agentlib:jdwp=transport=dt_socket,server=y,suspend=y,address=127.0.0.1:0"
-            with Served(["java", "-Xmx64m", "-XX:+UseSerialGC", agent, "-cp", classes, "Adding"]) as target:
-                fine &= judge(f"the JVM, session {session + 1}", printed(debugger, target.port))
+            with Served(java) as target:
+                fine &= judge(f"the JVM, session {session + 1}", differences(printed(debugger, target.port)))
+        with Served(java) as target:
+            fine &= judge("the JVM, frames", frames(frames_at, target.port))
     sys.exit(not fine)
 
 

@@ -4,5 +4,6 @@ pub mod Errors
 pub mod Exact
 pub mod Holding
 pub mod Keeping
+pub mod Replies
 pub mod Tickets
 pub mod Turning

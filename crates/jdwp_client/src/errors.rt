@@ -4,7 +4,7 @@ ghost use Rattle.jdwp_client.specs.declared.errors.ClientError.TheVariants as er
 ghost use Rattle.jdwp_client.specs.Errors.{error_of_refusal};
 
 use jdwp_debugger::{DebuggerFault, Refused, Ticket};
-use jdwp_wire::NoMemory;
+use jdwp_wire::{ErrorCode, NoMemory};
 use std::alloc::{AllocError, AllocFailed};
 use thiserror::Error;
 
@@ -41,6 +41,20 @@ pub enum ClientError {
     /// 2^64 - 1 steps were made and what was waited for did not come. Nothing is lost, and the session stays open.
     #[error("too many steps")]
     TooManySteps,
+}
+
+/// Why no reply was read of what was asked.
+#[derive(Clone, Copy, Debug, PartialEq, Eq, Error)]
+pub enum ReplyError {
+    /// The client's call failed. Where the cause is want of memory, the answer may have come, and was let go then.
+    #[error(transparent)]
+    Client(#[from] ClientError),
+    /// The target answered this error code (JDWP specification, "Error Constants").
+    #[error("the target answered with error code {}", .0.0)]
+    Target(ErrorCode),
+    /// The data of the answer are not in the layout of such a reply.
+    #[error("the answer is not in the layout of its reply")]
+    Layout,
 }
 
 /// What was waited for.

@@ -11,13 +11,14 @@ mod kept;
 mod laws;
 mod limits;
 mod options;
+mod reading;
 mod turning;
 mod unanswered;
 mod waiters;
 mod waiting;
 
 pub use client::Client;
-pub use errors::{Awaited, ClientError, Loss};
+pub use errors::{Awaited, ClientError, Loss, ReplyError};
 pub use holding::{is_surely_suspended, may_free};
 pub use limits::LimitedPipe;
 pub use options::Options;

@@ -1,102 +1,77 @@
 //! A debugger over a client.
-use crate::asked::Asked;
-use crate::faults::DebugFault;
-use milunovesk::client::Client;
+use anyhow::{Context, Result, bail};
+use milunovesk::client::{Client, ReplyError};
 use milunovesk::commands::{event_request, method, reference_type, virtual_machine};
 use milunovesk::events::Event;
-use milunovesk::replies::{ClassEntry, LineTable, MethodEntry, Reply};
+use milunovesk::replies::{ClassEntry, LineTable, MethodEntry};
 use milunovesk::{
-    Answer, Command, Composite, EventKind, Location, MethodId, Modifier, ObjectId, Pipe, Policy,
-    ReferenceTypeId, StepDepth, StepSize, TypeTag,
+    Composite, EventKind, Location, MethodId, Modifier, ObjectId, Pipe, Policy, ReferenceTypeId,
+    StepDepth, StepSize, TypeTag,
 };
 use std::alloc::Global;
+
+/// What is said of a place that is none.
+const NO_PLACE: &str = "a place is a class and a line, as in: stop at Main:7";
 
 /// A debugger of one program: a client, and the thread that stopped last.
 #[derive(Drop)]
 pub struct LineDebugger<P: Pipe> {
     pub(crate) alloc: Global,
-    client: Client<P>,
+    pub(crate) client: Client<P>,
     stopped: Option<ObjectId>,
 }
 
 impl<P: Pipe + Drop> LineDebugger<P> {
-    ghost use Rattle.std.specs.Prelude.{◌≡◌, IfOk, None, OnErr, Some};
-
     /// A debugger whose session has begun: it waits for the target's answer to the handshake.
     ///
     /// # Errors
     /// Those of `Client::attach`.
-    pub fn begin(alloc: Global, mut client: Client<P>) -> Result<LineDebugger<P>, DebugFault> {
+    pub fn begin(alloc: Global, mut client: Client<P>) -> Result<LineDebugger<P>> {
         client.attach()?;
-        let stopped = None;
         Ok(LineDebugger {
             alloc,
             client,
-            stopped,
+            stopped: None,
         })
-    }
-
-    /// Whether the session is open.
-    pub fn is_open(&self) -> bool {
-        self.client.is_open()
     }
 
     /// Does what a command line asks, and tells it in lines.
     ///
     /// # Errors
-    /// `NotStopped` where a thread that stopped is looked at or stepped, and none has; `NoCode`, `NowhereInCode`; those of `ask` and `Client::next_event`.
-    pub fn answer(&mut self, asked: Asked<'_>) -> Result<String, DebugFault> {
-        match asked {
-            Asked::StopAt(class, line) => return self.stop_at(class, line),
-            Asked::Cont => self.go()?,
-            Asked::Step(depth) => self.step(depth)?,
-            Asked::Where => return self.frames_text(-1),
-            Asked::Locals => return self.variables_text(),
-            Asked::Threads => return self.threads_text(),
-            Asked::Quit => {
-                self.client.dispose()?;
-                self.stopped = None;
-            }
+    /// A line that is no command's; what a command does not find; an error code that the target answers; those of the client.
+    pub fn answer(&mut self, line: &str) -> Result<String> {
+        match line {
+            "where" => return self.frames_text(-1),
+            "locals" => return self.variables_text(),
+            "threads" => return self.threads_text(),
+            "cont" => self.go()?,
+            "step" => self.step(StepDepth::Into)?,
+            "next" => self.step(StepDepth::Over)?,
+            "quit" => drop(self.client.dispose()?),
+            _ => return self.stop_at(line),
         }
-        match self.stopped {
-            Some(_) => self.frames_text(1),
-            None => Ok(String::new(self.alloc)),
+        if !self.client.is_open() {
+            return Ok(String::new(self.alloc));
         }
+        self.frames_text(1)
     }
 
     /// The thread that stopped.
     ///
     /// # Errors
-    /// `NotStopped` where none has.
-    pub fn thread(&self) -> Result<ObjectId, DebugFault>
-        ensures ok { IfOk result (λ thread. self.now.stopped ≡ Some thread) }
-        ensures err { OnErr result (self.now.stopped ≡ None) }
-    {
-        match self.stopped {
-            Some(thread) => Ok(thread),
-            None => Err(DebugFault::NotStopped),
-        }
+    /// Where none has.
+    pub fn thread(&self) -> Result<ObjectId> {
+        self.stopped.context("no thread has stopped: `stop at CLASS:LINE` and `cont` come first")
     }
 
-    /// Asks a command, and gives its reply.
-    ///
-    /// # Errors
-    /// `Refused` where the target answers an error code; `BadReply`; `NoMemory`; those of `Client::ask`.
-    pub fn ask<R: Reply>(&mut self, name: &'static str, command: Command) -> Result<R, DebugFault> {
-        match self.client.ask(command) {
-            Ok(Answer::Data(data)) => match R::of_data(self.alloc, data) {
-                Ok(Some(reply)) => Ok(reply),
-                Ok(None) => Err(DebugFault::BadReply(name)),
-                Err(error) => Err(DebugFault::NoMemory(error)),
-            },
-            Ok(Answer::Error(code)) => Err(DebugFault::Refused(name, code.0)),
-            Err(error) => Err(DebugFault::Client(error)),
-        }
-    }
-
-    /// Sets a breakpoint at each place of a line of a class. Where there is no such class yet, the program runs until it is prepared.
-    fn stop_at(&mut self, class: &str, line: i32) -> Result<String, DebugFault> {
-        if !has_prepared(&self.classes(class)?) {
+    /// Sets a breakpoint at each place of `stop at CLASS:LINE`. Where there is no such class yet, the program runs until it is prepared.
+    fn stop_at(&mut self, line: &str) -> Result<String> {
+        let place = line.strip_prefix("stop at ").context(
+            "stop at CLASS:LINE, cont, step, next, where, locals, threads, quit",
+        )?;
+        let (class, line) = place.split_once(':').context(NO_PLACE)?;
+        let line = line.parse::<i32>().context(NO_PLACE)?;
+        if !self.classes(class)?.iter().any(is_prepared) {
             let pattern = String::from_str(self.alloc, class)?;
             self.request(EventKind::ClassPrepare, Modifier::ClassMatch(pattern))?;
             self.go()?;
@@ -106,30 +81,30 @@ impl<P: Pipe + Drop> LineDebugger<P> {
             is_set |= self.set_in(entry.id, line)?;
         }
         if !is_set {
-            return Err(DebugFault::NoCode(line));
+            bail!("no class of this name has code of line {line}");
         }
         Ok(format!(in self.alloc; "  set at {class}:{line}\n")?)
     }
 
     /// The classes of this name, as `Lapp/Main;` is the signature of `app.Main`.
-    fn classes(&mut self, class: &str) -> Result<Vec<ClassEntry>, DebugFault> {
+    fn classes(&mut self, class: &str) -> Result<Vec<ClassEntry>> {
         let path = class.replace(self.alloc, '.', "/")?;
         let signature = format!(in self.alloc; "L{path};")?;
         let command = virtual_machine::classes_by_signature(self.alloc, signature.as_str())?;
-        self.ask("ClassesBySignature", command)
+        Ok(self.client.ask_for(command)?)
     }
 
     /// Sets a breakpoint in each method of a class that has code of this line, and says whether any has.
-    fn set_in(&mut self, class: ReferenceTypeId, line: i32) -> Result<bool, DebugFault> {
+    fn set_in(&mut self, class: ReferenceTypeId, line: i32) -> Result<bool> {
         let mut is_set = false;
         for entry in &self.methods(class)? {
-            let table = self.lines(class, entry.id)?;
+            let method = entry.id;
+            let table = self.lines(class, method)?;
             if let Some(index) = table.and_then(|table| table.code_index_of(line)) {
-                let tag = TypeTag::Class;
                 let place = Location::At {
-                    tag,
+                    tag: TypeTag::Class,
                     class,
-                    method: entry.id,
+                    method,
                     index,
                 };
                 self.request(EventKind::Breakpoint, Modifier::LocationOnly(place))?;
@@ -142,38 +117,34 @@ impl<P: Pipe + Drop> LineDebugger<P> {
     /// The methods of a class.
     ///
     /// # Errors
-    /// Those of `ask`.
-    pub fn methods(&mut self, class: ReferenceTypeId) -> Result<Vec<MethodEntry>, DebugFault> {
+    /// Those of `Client::ask_for`.
+    pub fn methods(&mut self, class: ReferenceTypeId) -> Result<Vec<MethodEntry>> {
         let command = reference_type::methods(self.alloc, class)?;
-        self.ask("Methods", command)
+        Ok(self.client.ask_for(command)?)
     }
 
     /// The line table of a method; None where the target has none, as of a native one.
     ///
     /// # Errors
-    /// Those of `ask`, but for `Refused`.
-    pub fn lines(
-        &mut self,
-        class: ReferenceTypeId,
-        of: MethodId,
-    ) -> Result<Option<LineTable>, DebugFault> {
+    /// Those of `Client::ask_for`.
+    pub fn lines(&mut self, class: ReferenceTypeId, of: MethodId) -> Result<Option<LineTable>> {
         let command = method::line_table(self.alloc, class, of)?;
-        match self.ask("LineTable", command) {
+        match self.client.ask_for(command) {
             Ok(table) => Ok(Some(table)),
-            Err(DebugFault::Refused(..)) => Ok(None),
-            Err(fault) => Err(fault),
+            Err(ReplyError::Target(_)) => Ok(None),
+            Err(error) => Err(error.into()),
         }
     }
 
     /// Asks for events that suspend all threads, and gives the request's id.
-    fn request(&mut self, kind: EventKind, modifier: Modifier) -> Result<i32, DebugFault> {
+    fn request(&mut self, kind: EventKind, modifier: Modifier) -> Result<i32> {
         let modifiers = vec![in self.alloc; modifier]?;
         let command = event_request::set(self.alloc, kind, Policy::All, modifiers)?;
-        self.ask("Set", command)
+        Ok(self.client.ask_for(command)?)
     }
 
     /// Lets all threads run until one stops.
-    fn go(&mut self) -> Result<(), DebugFault> {
+    fn go(&mut self) -> Result<()> {
         self.stopped = None;
         self.client.ask(virtual_machine::resume(self.alloc))?;
         for _ in 0..u64::MAX {
@@ -187,7 +158,7 @@ impl<P: Pipe + Drop> LineDebugger<P> {
     }
 
     /// The thread that a composite stopped: that of an event which was asked for.
-    fn stopped_by(&self, composite: &Composite) -> Result<Option<ObjectId>, DebugFault> {
+    fn stopped_by(&self, composite: &Composite) -> Result<Option<ObjectId>> {
         for event in composite.events() {
             match Event::of_fields(self.alloc, event.fields())? {
                 Some(event) if event.request() != 0 => return Ok(event.thread()),
@@ -198,7 +169,7 @@ impl<P: Pipe + Drop> LineDebugger<P> {
     }
 
     /// Lets the thread that stopped run to another line, into calls or over them, or until another stops.
-    fn step(&mut self, depth: StepDepth) -> Result<(), DebugFault> {
+    fn step(&mut self, depth: StepDepth) -> Result<()> {
         let step = Modifier::Step {
             thread: self.thread()?,
             size: StepSize::Line.number(),
@@ -212,7 +183,7 @@ impl<P: Pipe + Drop> LineDebugger<P> {
     }
 }
 
-/// Whether a class of these is prepared: its status has the bit 2.
-fn has_prepared(classes: &[ClassEntry]) -> bool {
-    classes.iter().any(|class| class.status & 2 == 2)
+/// Whether a class is prepared: its status has the bit 2.
+fn is_prepared(class: &ClassEntry) -> bool {
+    class.status & 2 == 2
 }

@@ -2,14 +2,11 @@
 //! describes, in the same process.
 #![tactic(auto)]
 
-mod asked;
 mod debugging;
 mod demo;
-mod faults;
 mod showing;
 
 use anyhow::bail;
-use asked::read_line;
 use debugging::LineDebugger;
 use demo::demo;
 use milunovesk::client::{Client, Options};
@@ -40,15 +37,11 @@ fn debug<P: Pipe + Drop>(
     let mut debugger = LineDebugger::begin(rt.alloc(), client)?;
     for line in rt.lines(rt.alloc()) {
         let line = line?;
-        let answered = match read_line(line.as_str()) {
-            Ok(asked) => debugger.answer(asked),
-            Err(fault) => Err(fault),
-        };
-        match answered {
+        match debugger.answer(line.as_str().trim()) {
             Ok(text) => print!(rt; "{text}")?,
             Err(fault) => println!(rt; "{fault}")?,
         }
-        if !debugger.is_open() {
+        if !debugger.client.is_open() {
             break;
         }
     }

@@ -2,7 +2,7 @@
 use crate::asserts::{expect_same, expect_same_for};
 use crate::clients::packets::{beginning, push_breakpoint, push_int_reply, push_reply};
 use crate::clients::peers::{FakeClient, client, request_of};
-use jdwp_client::{ClientError, is_surely_suspended};
+use jdwp_client::{ClientError, ReplyError, is_surely_suspended};
 use jdwp_command::answers::{is_done, one_int};
 use jdwp_command::{thread_reference, virtual_machine};
 use jdwp_debugger::{Refused, Ticket};
@@ -106,6 +106,25 @@ fn the_answer_of_another_ticket_comes_first(rt: HostRuntime) {
     }
     let again = client.wait(Ticket(1)).err();
     expect_same(&rt, &again, &Some(ClientError::NotWaiting(Ticket(1))));
+}
+
+#[test]
+fn a_reply_is_read_as_a_struct(rt: HostRuntime) {
+    let alloc = rt.alloc();
+    let mut bytes = beginning(&rt, alloc);
+    push_int_reply(&rt, &mut bytes, 2, 3);
+    push_reply(&rt, &mut bytes, 3, 10);
+    push_int_reply(&rt, &mut bytes, 4, 3);
+    let mut client = client(&rt, alloc, &bytes, 5, 0, 64);
+    expect_same(&rt, &client.attach().is_ok(), &true);
+    let refused = ReplyError::Target(ErrorCode::INVALID_THREAD);
+    for wanted in [Ok(3), Err(refused)] {
+        let command = thread_reference::suspend_count(alloc, THREAD).expect(&rt, "memory");
+        expect_same(&rt, &client.ask_for::<i32>(command), &wanted);
+    }
+    let command = thread_reference::suspend_count(alloc, THREAD).expect(&rt, "memory");
+    let other = client.ask_for::<Vec<ObjectId>>(command).err();
+    expect_same(&rt, &other, &Some(ReplyError::Layout));
 }
 
 #[test]
