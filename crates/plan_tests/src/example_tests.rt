@@ -1,27 +1,41 @@
 //! The plans of examples/, run at the machines that their comments name, which an edit there is to be made here, too.
 use crate::asserts::expect_same_for;
 use crate::run_tests::{Sink, line_of};
-use crate::scripted::{Half, Scripted};
 use jdwp_client::{Client, Options};
+use jdwp_debuggee::Settings;
 use jdwp_debugger::Order;
 use jdwp_end::Streams;
+use jdwp_partner::{Partner, Standing};
 use jdwp_plan::read_written;
-use jdwp_plan_run::{PlanEnded, Unlimited, run_plan};
+use jdwp_plan_run::run_plan;
+use jdwp_script_machine::ScriptMachine;
+use jdwp_wire::Limits;
 use std::alloc::Global;
 use std::io;
 use std::process::Abort;
 
-/// How a plan ends at the machine of a script, and what is told of that.
-fn run(rt: &impl Abort, alloc: Global, script: &str, text: &str) -> PlanEnded {
-    let scripted = Scripted::new(rt, alloc, script);
+/// At which line a plan ends at the machine of a script, with so many rounds, its status, and how the target stands then.
+fn run(
+    rt: &impl Abort,
+    alloc: Global,
+    script: &str,
+    text: &str,
+    rounds: u32,
+) -> (Option<usize>, u8, Standing) {
+    let machine = ScriptMachine::read(alloc, script).expect(rt, "a script");
+    let settings = Settings::new(true, 65_535, Limits::standard()).expect(rt, "a count limit");
+    let partner = Partner::new(alloc, machine, settings, false, rounds).expect(rt, "memory");
     let plan = read_written(alloc, text).expect(rt, "a plan");
-    let pipe = Unlimited {
-        pipe: Streams::new(Half(&scripted), Half(&scripted)),
-    };
-    let client = Client::new(alloc, pipe, Options::new(Order::One)).expect(rt, "memory");
+    let client = Client::new(alloc, partner, Options::new(Order::One)).expect(rt, "memory");
     let mut client = Box::new(alloc, client).expect(rt, "memory");
     let mut out = Streams::new(io::empty(), Sink(Vec::new(alloc)));
-    run_plan(alloc, &mut client, &plan, &mut out)
+    let ended = run_plan(alloc, &mut client, &plan, &mut out);
+    let partner = Box::into_inner(client).into_pipe();
+    (
+        line_of(&ended),
+        ended.verdict().status(),
+        partner.standing(),
+    )
 }
 
 /// examples/A.json: a thread that comes to index 3 of a method three times.
@@ -136,20 +150,30 @@ expect 0 \"counter\"
 ask VirtualMachine.Dispose
 ";
 
-/// Each plan, where it is met at the machine of a script, and at which line it ends at the others.
-const RUNS: [(&str, &str, Option<usize>); 5] = [
-    (LOOP, BREAKPOINT, None),
-    (CALL, STEP, None),
-    (THROW, EXCEPTION, None),
-    (CALL, BREAKPOINT, Some(10)),
-    (LOOP, EXCEPTION, Some(6)),
+/// Waits for an event while all threads are suspended.
+const IN_VAIN: &str = "plan 2\nwait event\n\nwait event\n";
+
+/// How a run ends: at which line, its status, and how the target stands.
+type End = (Option<usize>, u8, Standing);
+
+/// Each plan, how many rounds there are, and how it ends at the machine of a script.
+const RUNS: [(&str, &str, u32, End); 8] = [
+    (LOOP, BREAKPOINT, 100_000, (None, 0, Standing::Goes)),
+    (CALL, STEP, 100_000, (None, 0, Standing::Goes)),
+    (THROW, EXCEPTION, 100_000, (None, 0, Standing::Goes)),
+    (CALL, BREAKPOINT, 100_000, (Some(10), 5, Standing::Goes)),
+    (LOOP, EXCEPTION, 100_000, (Some(6), 1, Standing::Goes)),
+    // The handshake, the widths of ids and a third round, in which nothing is done.
+    (LOOP, IN_VAIN, 3, (Some(4), 5, Standing::Still)),
+    (LOOP, IN_VAIN, 2, (Some(4), 5, Standing::AllUsed)),
+    (LOOP, IN_VAIN, 0, (Some(2), 5, Standing::AllUsed)),
 ];
 
 #[test]
 fn examples_are_met(rt: HostRuntime) {
     let alloc = rt.alloc();
-    for (script, text, line) in RUNS {
-        let ended = run(&rt, alloc, script, text);
-        expect_same_for(&rt, &line_of(&ended), &line, &ended);
+    for (script, text, rounds, end) in RUNS {
+        let ended = run(&rt, alloc, script, text, rounds);
+        expect_same_for(&rt, &ended, &end, &text);
     }
 }

@@ -11,5 +11,3 @@ mod packets;
 mod reading_tests;
 #[cfg(test)]
 mod run_tests;
-#[cfg(test)]
-mod scripted;

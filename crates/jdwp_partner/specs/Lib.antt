@@ -1,0 +1,4 @@
+pub mod Insides
+pub mod Keeping
+pub mod Partners
+pub mod Standings
