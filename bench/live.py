@@ -5,7 +5,7 @@ A machine with a thread that moves in its method, 60,000 steps of it, is served 
 - in a first session the thread runs while nothing is asked, stands from a Suspend on, and runs again behind a Resume; another debugger is refused meanwhile;
 - a peer that says nothing is let go behind two seconds, and told;
 - the processor's time that the target takes in ten seconds, with all threads suspended in a session, and with nobody there. To reach: none;
-- 1,000 sessions one after the other (handshake, IDSizes, AllThreads, Suspend, SuspendCount, Dispose), and the peak of its memory behind the first 100 of them and behind all. To
+- 10,000 sessions one after the other (handshake, IDSizes, AllThreads, Suspend, SuspendCount, Dispose), and the peak of its memory behind the first 1,000 of them and behind all. To
   reach: no growth.
 
 Prints a line for each, and the status is 1 where one is not as it has to be.
@@ -32,8 +32,8 @@ LISTENING = b"Listening for transport dt_socket at address: "
 PATIENCE = 30
 STEPS = 60_000
 IDLE = 10
-SESSIONS = 1000
-FIRST = 100
+SESSIONS = 10_000
+FIRST = 1_000
 THREAD = struct.pack(">Q", 1)
 
 

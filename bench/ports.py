@@ -5,7 +5,7 @@ Runs `serve-script --port`, and debuggers and baselines that it builds (`cc` and
 are two and `taskset` is there. All of it is TCP_NODELAY. What is measured, in many short rounds at each, one in turn with the other, of which the fastest tenth
 counts, so that other processes of the machine disturb both alike, and little:
 - one at a time: a debugger (`port_client.c`) asks the suspend count of a thread and waits for the answer before it asks again; beside it, the same debugger at an echo that reads 19
-  bytes and writes 15 (`port_echo.c`). To reach: 0.9 of the echo's rate;
+  bytes and writes 15 (`port_echo.c`). To reach: 0.9 of the echo's rate; and the same at a live target, whose threads can't step;
 - 256 at once: the same debugger, of whose commands 256 wait for their answers; beside it, a plain target that knows little more than that (`plain_target.rs`). To reach: 0.5 of
   its rate;
 - memory: the peak of the target's memory in one session behind 100,000 commands, and behind as many more as make a million;
@@ -113,6 +113,10 @@ class Serving:
 
 def target(program, machine):
     return Serving([program, "serve-script", machine, "--start", "none", "--turns", str(TURNS)], lambda port: ["--port", str(port)])
+
+
+def live_target(program, machine):
+    return Serving([program, "serve-script", machine, "--start", "none", "--live"], lambda port: ["--port", str(port)])
 
 
 def baseline(program):
@@ -258,14 +262,16 @@ def main():
     with tempfile.TemporaryDirectory() as folder:
         paths = built(folder)
         client = paths["port_client"]
-        share = compare("one at a time", 1_000, 100, 1, client, target(program, small), baseline(paths["port_echo"]), "echo")
-        print(f"one at a time: {share:.2f} of the rate of an echo (to reach: 0.9)", flush=True)
-        share = compare("256 at once", 100, 20_000, 256, client, target(program, small), baseline(paths["plain_target"]), "target")
-        print(f"256 at once: {share:.2f} of the rate of a plain target (to reach: 0.5)", flush=True)
-        memory_of_commands(target(program, small), client, [100_000, 10_000_000 if long else 1_000_000])
         stands = os.path.join(folder, "stands.json")
         with open(stands, "w", encoding="ascii") as file:
             json.dump(machine_that_stands(), file)
+        share = compare("one at a time", 1_000, 100, 1, client, target(program, small), baseline(paths["port_echo"]), "echo")
+        print(f"one at a time: {share:.2f} of the rate of an echo (to reach: 0.9)", flush=True)
+        share = compare("one at a time, live", 1_000, 100, 1, client, live_target(program, stands), baseline(paths["port_echo"]), "echo")
+        print(f"one at a time, live: {share:.2f} of the rate of an echo (to reach: 0.9)", flush=True)
+        share = compare("256 at once", 100, 20_000, 256, client, target(program, small), baseline(paths["plain_target"]), "target")
+        print(f"256 at once: {share:.2f} of the rate of a plain target (to reach: 0.5)", flush=True)
+        memory_of_commands(target(program, small), client, [100_000, 10_000_000 if long else 1_000_000])
         memory_of_sessions(target(program, stands), [10_000, 100_000 if long else 20_000])
 
 

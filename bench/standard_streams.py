@@ -3,7 +3,7 @@
 
 Runs it with each of the eight choices of standard input, output and error closed (`<&-`, `>&-`, `2>&-`):
 - `check` and `show` of examples/session.capture, and `check` of a file that is not there;
-- `pair` of examples/A.json and examples/pair.plan, over a connection and in memory;
+- `pair` of examples/A.json and examples/numbers.plan, over a connection and in memory;
 - `serve-script` at a port, to which an `attach` connects whose streams are closed in the same way. What goes over the connection is written down by a relay in between.
 Each run has to end with the status that it has with all streams open, and to print the same on those that are open; and over the connection has to go, byte for byte, what goes over it with all open: so nothing
 that was to be printed is sent to the other end, and no file or connection is taken for standard input.
@@ -189,8 +189,8 @@ def main():
         ["check", "session.capture"],
         ["show", "session.capture"],
         ["check", "absent.capture"],
-        ["pair", "A.json", "pair.plan"],
-        ["pair", "A.json", "pair.plan", "--memory"],
+        ["pair", "A.json", "numbers.plan"],
+        ["pair", "A.json", "numbers.plan", "--memory"],
     ]
     for words in commands:
         whole = ran(program, words, ())

@@ -9,7 +9,11 @@ mod breaking_tests;
 mod peer_tests;
 mod prompt;
 #[cfg(test)]
+mod recording_tests;
+#[cfg(test)]
 mod runs;
+#[cfg(test)]
+mod same_file_tests;
 mod streams;
 #[cfg(test)]
 mod tests;

@@ -1,5 +1,6 @@
 //! Runs of the program without files between its ends.
 use crate::runs::{Holds, MACHINE, SCENE, Scene, Tells, go};
+use crate::written_tests::{PLAN as WORDS, PRINTED as TOLD};
 
 /// A breakpoint that suspends all threads, then Resume; and the mirror once it was reached.
 const PLAN: &str = "ask 15 1 0202000000010701000000000000000a00000000000000140000000000000003
@@ -77,8 +78,19 @@ const PRINTED_BEFORE: &str = "< hello
 < 2 reply VirtualMachine.Suspend 0
 ";
 
+/// What is told of the expectations of `WORDS` as test cases.
+const CASES: &str = "<?xml version=\"1.0\" encoding=\"UTF-8\"?>
+<testsuite name=\"words_plan\" tests=\"2\" failures=\"0\" errors=\"0\" skipped=\"0\">
+<testcase name=\"line 4: expect 0 1\"/>
+<testcase name=\"line 5: expect held #1\"/>
+</testsuite>
+";
+
+/// VM_START of a target that suspends all threads.
+const BEGUN: &str = "< Event.Composite 2 [(90, 0, #1)]\n";
+
 /// Runs of both ends, over memory and over a connection.
-static BOTH_ENDS: [Scene; 10] = [
+static BOTH_ENDS: [Scene; 16] = [
     Scene {
         files: &[
             ("pair_machine", Holds::Text(MACHINE)),
@@ -174,6 +186,83 @@ static BOTH_ENDS: [Scene; 10] = [
         words: "pair pair_bad_machine pair_bad_plan --memory",
         status: 1,
         tells: Tells::All(&["pair_bad_plan: line 1 of the plan: "]),
+        ..SCENE
+    },
+    // Plans in words.
+    Scene {
+        files: &[
+            ("words_machine", Holds::Text(MACHINE)),
+            ("words_plan", Holds::Text(WORDS)),
+        ],
+        words: "pair words_machine words_plan --start none --junit words_cases",
+        prints: Some(TOLD),
+        leaves: &[("words_cases", Some(Holds::Text(CASES)))],
+        ..SCENE
+    },
+    Scene {
+        files: &[
+            ("words_machine", Holds::Text(MACHINE)),
+            (
+                "words_plan",
+                Holds::Text("plan 2\nwait event\nexpect 0 [(90, 0, #2)]\nmirror\n"),
+            ),
+        ],
+        words: "pair words_machine words_plan --start none --memory",
+        status: 5,
+        prints: Some("< Event.Composite 0 [(90, 0, #1)]\n"),
+        tells: Tells::Exactly(
+            "jdwp: line 3 of the plan: expected `0 [(90, 0, #2)]`, found `0 [(90, 0, #1)]`\n",
+        ),
+        ..SCENE
+    },
+    // All threads are suspended behind VM_START.
+    Scene {
+        files: &[
+            ("words_machine", Holds::Text(MACHINE)),
+            (
+                "words_plan",
+                Holds::Text("plan 2\nwait event\n\nwait event\n"),
+            ),
+        ],
+        words: "pair words_machine words_plan",
+        status: 4,
+        prints: Some(BEGUN),
+        tells: Tells::Exactly(
+            "jdwp: nothing more can happen: line 4 of the plan waits for the next composite\n",
+        ),
+        ..SCENE
+    },
+    Scene {
+        files: &[
+            ("words_machine", Holds::Text(MACHINE)),
+            ("words_plan", Holds::Text("plan 2\nevents 2\n")),
+        ],
+        words: "pair words_machine words_plan --turns 2",
+        status: 4,
+        prints: Some(BEGUN),
+        tells: Tells::Exactly("jdwp: the turn limit of --turns is reached\n"),
+        ..SCENE
+    },
+    Scene {
+        files: &[
+            ("words_machine", Holds::Text(MACHINE)),
+            ("words_plan", Holds::Text("plan 2\nmay end\nevents 2\n")),
+        ],
+        words: "pair words_machine words_plan",
+        prints: Some(BEGUN),
+        ..SCENE
+    },
+    Scene {
+        files: &[
+            ("words_machine", Holds::Text(MACHINE)),
+            ("words_plan", Holds::Text("mirror\n")),
+        ],
+        words: "pair words_machine words_plan --memory --junit words_cases",
+        status: 1,
+        tells: Tells::Exactly(
+            "jdwp: words_cases: only a plan in words, whose first line is `plan 2`, has expectations\n",
+        ),
+        spares: &["words_cases"],
         ..SCENE
     },
 ];

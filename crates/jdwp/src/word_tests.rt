@@ -173,7 +173,7 @@ static HELP: [(&str, &str); 24] = [
     ),
     (
         "pair --help",
-        "Runs a plan|Usage: jdwp pair |<MACHINE>|<PLAN>|a connection at 127.0.0.1|--memory|--order <ORDER>|[default: one]|one, apart|--start <WHICH>|--defer|--turns <N>",
+        "Runs a plan|Usage: jdwp pair |<MACHINE>|<PLAN>|a connection at 127.0.0.1|--memory|--order <ORDER>|[default: one]|one, apart|--start <WHICH>|--defer|--turns <N>|--junit <FILE>",
     ),
     ("show --help", "Shows a capture|Usage: |<FILE>"),
     ("check --help", "Judges a capture|Usage: |<FILE>"),
@@ -239,7 +239,11 @@ static HELP: [(&str, &str); 24] = [
 ];
 
 /// The words of a row are refused, and each of its texts is told.
-fn is_helped<R: Files + Clock + Net + AllocGlobal + Abort>(rt: &R, words: &str, texts: &str) {
+pub(crate) fn is_helped<R: Files + Clock + Net + AllocGlobal + Abort>(
+    rt: &R,
+    words: &str,
+    texts: &str,
+) {
     let alloc = rt.alloc();
     let all: Vec<&str> = words.split_whitespace().collect(alloc).expect(rt, "memory");
     let told: Vec<&str> = texts.split('|').collect(alloc).expect(rt, "memory");
@@ -312,7 +316,7 @@ static DEFAULTS_OF_ATTACH: [(&[&str], Order, u32); 4] = [
 ];
 
 /// The words are read so.
-fn are_read(rt: &impl Abort, alloc: Global, words: &[&str], want: &Words<'_>) {
+pub(crate) fn are_read(rt: &impl Abort, alloc: Global, words: &[&str], want: &Words<'_>) {
     let found = jdwp_files::read(alloc, words).expect(rt, "words that read");
     expect_same_for(rt, &found, want, &words);
 }
@@ -473,6 +477,7 @@ fn pairs_in(rt: &impl Abort, alloc: Global, words: &[&str], order: Order) {
         settings,
         defer: false,
         turns: 100000,
+        junit: None,
     });
     are_read(rt, alloc, words, &want);
 }
@@ -522,6 +527,7 @@ fn pairs(
         settings,
         defer,
         turns,
+        junit: None,
     });
     are_read(rt, alloc, words.as_slice(), &want);
 }
@@ -713,6 +719,7 @@ fn pairs_within(rt: &impl Abort, alloc: Global, words: &[&str], limits: Limits) 
         settings,
         defer: false,
         turns: 100000,
+        junit: None,
     });
     are_read(rt, alloc, words, &want);
 }

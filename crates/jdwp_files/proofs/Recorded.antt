@@ -1,11 +1,11 @@
-use Rattle.std.proofs.Common.{◌≡◌, ◌≢◌, ◌≤◌, ◌⊎◌, ℕ, List, Option, None, Result, Ok, Err, IfOk, IfErr, inl, inr, Bool, true, false, refl, sym, subst, arith}
+use Rattle.std.proofs.Common.{◌≡◌, ◌≢◌, ◌≤◌, ◌⊎◌, ℕ, List, Option, None, Result, Ok, Err, IfOk, IfErr, inl, inr, true, false, refl, sym, subst, arith}
 use Rattle.std.specs.Io.KnownBytes.{Appends}
 use Rattle.jdwp_show.specs.declared.capture_fault.CaptureFault.{CaptureFault}
 use Rattle.jdwp_program.specs.declared.captures.Told.{Told}
 use Rattle.jdwp_program.specs.declared.captures.Told.TheVariants.{Faultless, Faulty, Unread}
 use Rattle.jdwp_program.specs.declared.fault.Fault.{Fault}
 use Rattle.jdwp_program.specs.Captures.{Tells}
-use Rattle.jdwp_program.specs.Outputs.{IsTextOf, Leaves, LeavesCaptureTold, LeavesTold}
+use Rattle.jdwp_program.specs.Outputs.{IsTextOf, Leaves, LeavesCaptureTold}
 use Rattle.jdwp_program.specs.Statuses.{status_of_fault, status_of_told}
 
 -- what was told whole was printed whole

@@ -1,4 +1,4 @@
+pub mod Paired
 pub mod Pairs
 pub mod Refusals
-pub mod Commands
 pub mod Written

@@ -59,10 +59,12 @@ new_client limits order pipe = record {
   most_events = 1024;
 }
 
--- A new client ran these lines over this pipe, and the run ended so; this went to the output before it, and this is there behind it.
-abbrev pub RunsNew : {P : Type 0} → (P → Story) → Limits → Order → List PlanLine → P → Story → PlanEnded → Story → Type 0
-RunsNew {P} story limits order plan pipe out ended new_out =
-    (last : Client P) × Ends story (begun (new_client limits order pipe) out) plan ended last new_out
+-- A new client ran these lines over this pipe, and the run ended so, with this pipe behind it; this went to the output before it, and this is
+-- there behind it.
+pub record RunsNew {P : Type 0} (story : P → Story) (limits : Limits) (order : Order) (plan : List PlanLine) (pipe : P) (out : Story) (ended : PlanEnded) (left : P) (new_out : Story) : Type 0 where
+  pub last : Client P
+  pub ends : Ends story (begun (new_client limits order pipe) out) plan ended last new_out
+  pub pipe_is : left ≡ last.pipe
 
 -- ---- what is told of them
 
@@ -76,8 +78,9 @@ IsToldOf are_written limits output verdict outcome = outcome ≡ Planned verdict
 -- A new client ran these lines over this pipe, as the words say, and this is told of that.
 pub record AttachesWritten {P : Type 0} (story : P → Story) (words : Attach) (plan : List PlanLine) (pipe : P) (outcome : Outcome) : Type 0 where
   pub ended : PlanEnded
+  pub left : P
   pub printed : Story
-  pub ran : RunsNew story words.limits words.order plan pipe empty_story ended printed
+  pub ran : RunsNew story words.limits words.order plan pipe empty_story ended left printed
   pub are_written : Bool
   pub need_not : words.junit ≡ None → are_written ≡ true
   pub output : Option Error

@@ -264,7 +264,7 @@ pub fn attach_files<'a, R: Files + AllocGlobal, O: Write, E: Write>(
     if let Some(text) = written_text(&bytes) {
         return attach_written_files(rt, words, files, text, out, err);
     }
-    without_cases(words)?;
+    without_cases(words.junit)?;
     let pipe = streams(rt, files.from, files.to)?;
     attach_over(rt.alloc(), words, files, &bytes, pipe, out)
 }

@@ -1,12 +1,13 @@
-//! The words of the program's command line, and its commands on files, over any runtime and two writers.
+//! The program's commands on files and at ports, over any runtime and two writers.
 #![tactic(auto)]
 
 mod files;
 mod memory;
+mod paired;
+mod recording;
 mod running;
 mod sessions;
-mod words;
 mod written;
 
+pub use jdwp_words::read;
 pub use running::run;
-pub use words::read;

@@ -17,6 +17,7 @@ ghost use Rattle.jdwp_files.specs.Pairs.{IsEndOfPair};
 ghost use Rattle.jdwp_files.specs.Refusals.{RefusesAttachPlan, RefusesPlan, RefusesScript};
 
 use crate::files::{read, text};
+use crate::paired::pair_written;
 use crate::written::{attach_written_port, without_cases, written_text};
 use jdwp_attach::{Attached, PlanLine, read_attach_plan, read_plan};
 use jdwp_debuggee::Settings;
@@ -186,7 +187,7 @@ pub fn attach_port<'a, R: Files + Clock + AllocGlobal + Net, O: Write, E: Write>
     if let Some(text) = written_text(&bytes) {
         return attach_written_port(rt, words, port, text, out, err);
     }
-    without_cases(words)?;
+    without_cases(words.junit)?;
     let plan = attach_plan_of(rt.alloc(), words.plan, &bytes)?;
     attach_by(rt, words, port, plan.as_slice(), out)
 }
@@ -242,20 +243,27 @@ fn debugger_of(alloc: Global, limits: Limits, order: Order) -> Result<Box<Debugg
     Ok(Box::new(alloc, debugger)?)
 }
 
-/// Runs a plan as the debugger of the machine of a script, both ends in this process, and prints what the debugger reads. Bytes go from one
-/// end to the other in memory, or over a connection of this machine to itself.
+/// Runs a plan as the debugger of the machine of a script, both ends in this process, and prints what the debugger reads; where a plan in words
+/// was not carried out, why is told on `err`. Bytes go from one end to the other in memory, or, by a plan in numbers, over a connection of this
+/// machine to itself.
 ///
 /// # Errors
-/// `File` where one can't be read or is not UTF-8; `Script` or `Plan` where one is refused; `NoMemory`. Then nothing was printed.
-pub fn pair_files<'a, R: Files + AllocGlobal + Net, O: Write>(
+/// `File` where one can't be read or is not UTF-8, or test cases are to be told of a plan that is not in words, or in a file that is read;
+/// `Script`, `Plan` or `Written` where one is refused; `NoMemory`. Then nothing was printed.
+pub fn pair_files<'a, R: Files + AllocGlobal + Net, O: Write, E: Write>(
     rt: &R,
     words: &Pair<'a>,
     out: &mut O,
+    err: &mut E,
 ) -> Result<Outcome<'a>, Fault<'a>>
     ensures unprinted { OnErr result (Keeps (O.contents out.old) (O.contents out.new)) }
 {
     let script = read(rt, words.machine)?;
     let plan = read(rt, words.plan)?;
+    if let Some(text) = written_text(&plan) {
+        return pair_written(rt, words, &script, text, out, err);
+    }
+    without_cases(words.junit)?;
     match words.between {
         Between::Memory => pair_over(rt.alloc(), words, &mut Memory::new(), &script, &plan, out),
         Between::Loopback => {
@@ -325,7 +333,7 @@ fn pair_bytes<'a, C: Connection, O: Pipe>(
 }
 
 /// The machine of the script of these bytes of a file, in the profile and within the limits of these settings.
-fn machine_of<'a>(
+pub(crate) fn machine_of<'a>(
     alloc: Global,
     file: &'a str,
     bytes: &[u8],

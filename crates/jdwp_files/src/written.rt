@@ -11,6 +11,7 @@ use crate::files::{is_one_file, keep, streams};
 use jdwp_attach::Attached;
 use jdwp_client::{Client, LimitedPipe, Options};
 use jdwp_client_port::Connection;
+use jdwp_debugger::Order;
 use jdwp_end::{Ended, Pipe, Streams};
 use jdwp_plan::{PlanLine, read_written};
 use jdwp_plan_run::{PlanEnded, PlanVerdict, Unlimited, junit_text, run_plan};
@@ -43,8 +44,8 @@ pub(crate) fn written_text(bytes: &[u8]) -> Option<&str>
 }
 
 /// Refuses to tell the test cases of a plan that is not in words, and has none.
-pub(crate) fn without_cases<'a>(words: &Attach<'a>) -> Result<(), Fault<'a>> {
-    match words.junit {
+pub(crate) fn without_cases<'a>(junit: Option<&'a str>) -> Result<(), Fault<'a>> {
+    match junit {
         Some(cases) => Err(Fault::File(cases, FileCause::NoCases)),
         None => Ok(()),
     }
@@ -66,9 +67,9 @@ pub(crate) fn attach_written_files<'a, R: Files + AllocGlobal, O: Write, E: Writ
 ) -> Result<Outcome<'a>, Fault<'a>>
     ensures unprinted { OnErr result (Keeps (O.contents out.old) (O.contents out.new)) }
 {
-    keep_from_cases(rt, words, words.plan)?;
-    keep_from_cases(rt, words, files.from)?;
-    let plan = plan_of(rt.alloc(), words, text)?;
+    keep_from_cases(rt, words.junit, words.plan)?;
+    keep_from_cases(rt, words.junit, files.from)?;
+    let plan = plan_of(rt.alloc(), words.plan, words.timeout, text)?;
     let pipe = Unlimited {
         pipe: streams(rt, files.from, files.to)?,
     };
@@ -91,8 +92,8 @@ pub(crate) fn attach_written_port<'a, R: Files + Clock + AllocGlobal + Net, O: W
 ) -> Result<Outcome<'a>, Fault<'a>>
     ensures unprinted { OnErr result (Keeps (O.contents out.old) (O.contents out.new)) }
 {
-    keep_from_cases(rt, words, words.plan)?;
-    let plan = plan_of(rt.alloc(), words, text)?;
+    keep_from_cases(rt, words.junit, words.plan)?;
+    let plan = plan_of(rt.alloc(), words.plan, words.timeout, text)?;
     let stream = connect(rt, port)?;
     match Connection::new(rt.alloc(), rt, stream) {
         Ok(pipe) => attach_written(rt, words, &plan, pipe, out, err),
@@ -100,14 +101,19 @@ pub(crate) fn attach_written_port<'a, R: Files + Clock + AllocGlobal + Net, O: W
     }
 }
 
-/// The lines of the plan in words of this text, within the limit of time that the words set.
-fn plan_of<'a>(alloc: Global, words: &Attach<'a>, text: &str) -> Result<Vec<PlanLine>, Fault<'a>>
-    ensures plan { IfOk result (λ plan. IsPlanOf text.now words.now.timeout plan.items) }
-    ensures fault { IfErr result (RefusesWritten words.now.plan text.now) }
+/// The lines of the plan in words of this text of a file, within this limit of time.
+pub(crate) fn plan_of<'a>(
+    alloc: Global,
+    file: &'a str,
+    timeout: Option<u32>,
+    text: &str,
+) -> Result<Vec<PlanLine>, Fault<'a>>
+    ensures plan { IfOk result (λ plan. IsPlanOf text.now timeout plan.items) }
+    ensures fault { IfErr result (RefusesWritten file.entry text.now) }
 {
     match read_written(alloc, text) {
-        Ok(plan) => Ok(within(plan, words.timeout)),
-        Err(fault) => Err(Fault::of_written(words.plan, fault)),
+        Ok(plan) => Ok(within(plan, timeout)),
+        Err(fault) => Err(Fault::of_written(file, fault)),
     }
 }
 
@@ -124,8 +130,12 @@ fn within(mut plan: Vec<PlanLine>, timeout: Option<u32>) -> Vec<PlanLine>
 }
 
 /// Refuses a file of test cases that is this one, which is read. No file is opened.
-fn keep_from_cases<'a, R: Files>(rt: &R, words: &Attach<'a>, read: &str) -> Result<(), Fault<'a>> {
-    match words.junit {
+pub(crate) fn keep_from_cases<'a, R: Files>(
+    rt: &R,
+    junit: Option<&'a str>,
+    read: &str,
+) -> Result<(), Fault<'a>> {
+    match junit {
         Some(cases) => keep(rt, cases, read),
         None => Ok(()),
     }
@@ -157,44 +167,66 @@ fn attach_written<'a, R: Files + AllocGlobal, P: LimitedPipe + Drop, O: Write, E
     ensures unprinted { OnErr result (Keeps (O.contents out.old) (O.contents out.new)) }
 {
     let mut printed = Streams::new(io::empty(), Watched::new(out));
-    let ended = run_new(rt.alloc(), words, plan, pipe, &mut printed)?;
+    let run = run_new(
+        rt.alloc(),
+        words.limits,
+        words.order,
+        plan,
+        pipe,
+        &mut printed,
+    )?;
     let (_, output) = printed.into_parts();
-    report_plan(rt.alloc(), &ended, err);
-    let are_written = write_cases(rt, words, plan, &ended, err);
-    Ok(outcome_of(ended.verdict(), are_written, words.limits, output.failure()))
+    report_plan(rt.alloc(), &run.ended, err);
+    let are_written = write_cases(rt, words.plan, words.junit, plan, &run.ended, err);
+    Ok(outcome_of(
+        run.ended.verdict(),
+        are_written,
+        words.limits,
+        output.failure(),
+    ))
 }
 
-/// Runs a plan by a new client over this pipe.
-fn run_new<P: LimitedPipe + Drop, W: Pipe>(
+/// How the run of a plan ended, and the pipe behind it.
+#[derive(Drop)]
+pub(crate) struct Over<P> {
+    pub ended: PlanEnded,
+    pub pipe: P,
+}
+
+/// Runs a plan by a new client over this pipe, within these limits, of a target that sends in this order.
+pub(crate) fn run_new<P: LimitedPipe + Drop, W: Pipe>(
     alloc: Global,
-    words: &Attach<'_>,
+    limits: Limits,
+    order: Order,
     plan: &[PlanLine],
     pipe: P,
     out: &mut W,
-) -> Result<PlanEnded, NoMemory>
-    ensures ran { IfOk result (λ ended. RunsNew P.story words.now.limits words.now.order plan.now pipe
-        (W.story out.old) ended (W.story out.new)) }
+) -> Result<Over<P>, NoMemory>
+    ensures ran { IfOk result (λ run. RunsNew P.story limits order plan.now pipe (W.story out.old)
+        run.ended run.pipe (W.story out.new)) }
     ensures unprinted { OnErr result (out.new ≡ out.old) }
 {
-    let mut client = client_over(alloc, words, pipe)?;
-    Ok(run_plan(alloc, &mut client, plan, out))
+    let mut client = client_over(alloc, limits, order, pipe)?;
+    let ended = run_plan(alloc, &mut client, plan, out);
+    let pipe = Box::into_inner(client).into_pipe();
+    Ok(Over { ended, pipe })
 }
 
 /// How many composites a client keeps that no line has waited for.
 const MOST_EVENTS: usize = 1_024;
 
-/// A new client over this pipe, as the words say, on the heap.
+/// A new client over this pipe, within these limits, of a target that sends in this order, on the heap.
 fn client_over<P: LimitedPipe + Drop>(
     alloc: Global,
-    words: &Attach<'_>,
+    limits: Limits,
+    order: Order,
     pipe: P,
 ) -> Result<Box<Client<P>>, NoMemory>
-    ensures { IfOk result (λ client. client.value
-        ≡ new_client words.now.limits words.now.order pipe) }
+    ensures { IfOk result (λ client. client.value ≡ new_client limits order pipe) }
 {
     let options = Options {
-        order: words.order,
-        limits: words.limits,
+        order,
+        limits,
         first_id: 1,
         most_events: MOST_EVENTS,
     };
@@ -202,20 +234,22 @@ fn client_over<P: LimitedPipe + Drop>(
     Ok(Box::new(alloc, client)?)
 }
 
-/// Writes the expectations of a run where `--junit` says, and answers whether that could be done or need not be; if not, why is told on `err`.
-fn write_cases<R: Files + AllocGlobal, E: Write>(
+/// Writes the expectations of a run of the plan of this name where `--junit` says, and answers whether that could be done or need not be; if
+/// not, why is told on `err`.
+pub(crate) fn write_cases<R: Files + AllocGlobal, E: Write>(
     rt: &R,
-    words: &Attach<'_>,
+    name: &str,
+    junit: Option<&str>,
     plan: &[PlanLine],
     ended: &PlanEnded,
     err: &mut E,
 ) -> bool
-    ensures { words.now.junit ≡ None → result ≡ true }
+    ensures { junit.entry ≡ None → result ≡ true }
 {
-    let Some(file) = words.junit else {
+    let Some(file) = junit else {
         return true;
     };
-    let Ok(xml) = junit_text(rt.alloc(), words.plan, plan, ended) else {
+    let Ok(xml) = junit_text(rt.alloc(), name, plan, ended) else {
         report_fault(&Fault::NoMemory, err);
         return false;
     };
@@ -230,7 +264,7 @@ fn write_cases<R: Files + AllocGlobal, E: Write>(
 
 /// What is told of a run within these limits that came to this, whose test cases were written, need not be, or could not, and which printed
 /// on an output that failed with `output`, if it did.
-fn outcome_of<'a>(
+pub(crate) fn outcome_of<'a>(
     verdict: PlanVerdict,
     are_written: bool,
     limits: Limits,

@@ -1,10 +1,10 @@
 -- What is left of what was told.
-use Rattle.std.proofs.Common.{◌≡◌, ℕ, List, Option, Some, None, Result, Ok, Err, inl, inr, refl}
+use Rattle.std.proofs.Common.{◌≡◌, ℕ, List, [], append-nil, Option, Some, None, Result, Ok, Err, inl, inr, refl, subst, sym}
 use Rattle.jdwp_show.specs.declared.capture_fault.CaptureFault.{CaptureFault}
 use Rattle.jdwp_show.specs.Sessions.{first_fault}
 use Rattle.jdwp_program.specs.Captures.{Tells, shown_text, verdict_text}
-use Rattle.jdwp_program.specs.Listening.{TellsListening}
-use Rattle.jdwp_program.specs.Outputs.{IsTextOf, LeavesListened, LeavesTold}
+use Rattle.jdwp_program.specs.Listening.{TellsListening, listening_line}
+use Rattle.jdwp_program.specs.Outputs.{IsTextOf, LeavesListened, LeavesListening, LeavesText, LeavesTold}
 use Rattle.jdwp_program.specs.Version.{version_line}
 use Rattle.jdwp_program.specs.declared.captures.Told.{Told}
 use Rattle.jdwp_program.specs.declared.captures.Told.TheVariants.{Faultless, Faulty, Unread}
@@ -40,8 +40,12 @@ leaves_version old new (Ok Unread) tells = inr (inr (inl (inr (refl, tells))))
 leaves_version old new (Err (Output error)) tells = inr (inr (inl (inr (refl, tells.1))))
 leaves_version old new (Err NoMemory) tells = inl tells
 
+-- behind the line of a port stand no sessions
+pub line_alone : (port status : ℕ) (old new : Option (List ℕ)) → LeavesText status (listening_line port) old new → LeavesListening status old new
+line_alone port status old new leaves = (port, [], subst (λ text. LeavesText status text old new) (sym (append-nil (listening_line port))) leaves)
+
 -- of the line of a port
 pub leaves_listened : (port : ℕ) (old new : Option (List ℕ)) (result : Result (Unit {0}) TellFault) → TellsListening port old new result → LeavesListened result old new
-leaves_listened port old new (Ok done) tells = λ status. inr (inr (inr (inl (port, inl tells))))
-leaves_listened port old new (Err (Output error)) tells = inr (inr (inr (inl (port, inr (refl, tells)))))
+leaves_listened port old new (Ok done) tells = λ status. inr (inr (inr (inl (line_alone port status old new (inl tells)))))
+leaves_listened port old new (Err (Output error)) tells = inr (inr (inr (inl (line_alone port 2 old new (inr (refl, tells))))))
 leaves_listened port old new (Err NoMemory) tells = inl tells

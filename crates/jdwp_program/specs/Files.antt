@@ -12,6 +12,8 @@ use Rattle.jdwp_attach.specs.declared.plans.plan_fault.PlanFault.{PlanFault}
 use Rattle.jdwp_attach.specs.declared.plans.plan_fault.PlanFault.TheVariants as plan
 use Rattle.jdwp_port.specs.declared.faults.PortFault.{PortFault}
 use Rattle.jdwp_port.specs.declared.faults.PortFault.TheVariants as port
+use Rattle.jdwp_record.specs.declared.faults.RecordFault.{RecordFault}
+use Rattle.jdwp_record.specs.declared.faults.RecordFault.TheVariants as recorder
 use Rattle.jdwp_recording.specs.declared.recording_fault.RecordingFault.{RecordingFault}
 use Rattle.jdwp_recording.specs.declared.recording_fault.RecordingFault.TheVariants as recording
 use Rattle.jdwp_plan.specs.declared.plan_fault.PlanFault.{PlanFault as WrittenFault}
@@ -55,6 +57,12 @@ fault_of_telling telling.NoMemory = fault.NoMemory
 abbrev pub fault_of_port : PortFault → Fault
 fault_of_port (port.Port number cause) = fault.Port number cause
 fault_of_port port.NoMemory = fault.NoMemory
+
+-- what is told where no further session is recorded: a port that can't be used and want of memory alone, or the fault
+abbrev pub fault_of_recorder : RecordFault → Fault
+fault_of_recorder (recorder.Port number cause) = fault.Port number cause
+fault_of_recorder recorder.NoMemory = fault.NoMemory
+fault_of_recorder other = fault.Recorder other
 
 -- what is told of the fault of the script of a file of this name, with what is known beside it: want of memory alone, or all of it
 abbrev pub fault_of_script : Bor (List ℕ) → ScriptFault → Detail → Fault

@@ -1,6 +1,7 @@
 -- What a run of the program leaves on its standard output.
-use Rattle.std.specs.Prelude.{◌≡◌, ◌≤◌, ◌⊎◌, ℕ, List, Option, Some, None, Result, MatchResult}
+use Rattle.std.specs.Prelude.{◌≡◌, ◌≤◌, ◌⊎◌, ℕ, List, ◌++◌, Option, Some, None, Result, Ok, Err, MatchResult}
 use Rattle.std.specs.Io.KnownBytes.{Appends, Keeps}
+use Rattle.std.specs.List.{flat_map}
 use Rattle.jdwp_show.specs.declared.capture_fault.CaptureFault.{CaptureFault}
 use Rattle.jdwp_show.specs.Sessions.{first_fault}
 use Rattle.jdwp_program.specs.declared.captures.Told.{Told}
@@ -38,11 +39,24 @@ LeavesRecorded status old new =
 abbrev pub LeavesVersion : ℕ → Option (List ℕ) → Option (List ℕ) → Type 0
 LeavesVersion status old new = ((status ≡ 0) × Appends old new version_line) ⊎ ((status ≡ 2) × AppendsPart old new version_line)
 
--- a run with this status told where debuggers are awaited: the whole line; or a beginning, and the status is 2
-abbrev pub LeavesListening : ℕ → Option (List ℕ) → Option (List ℕ) → Type 0
-LeavesListening status old new = (port : ℕ) × (Appends old new (listening_line port) ⊎ ((status ≡ 2) × AppendsPart old new (listening_line port)))
+-- a run with this status told this text: all of it; or a beginning, and the status is 2
+abbrev pub LeavesText : ℕ → List ℕ → Option (List ℕ) → Option (List ℕ) → Type 0
+LeavesText status text old new = Appends old new text ⊎ ((status ≡ 2) × AppendsPart old new text)
 
--- what a run with this status leaves: nothing, what it told of a capture or a recording, the program's version, or the line of a port
+-- these captures in words, one behind the other
+abbrev pub shown_texts : List (List ℕ) → List ℕ
+shown_texts captures = flat_map shown_text captures
+
+-- a run with this status told captures of sessions in words; or a beginning
+abbrev pub LeavesShown : ℕ → Option (List ℕ) → Option (List ℕ) → Type 0
+LeavesShown status old new = (captures : List (List ℕ)) × LeavesText status (shown_texts captures) old new
+
+-- a run with this status told where debuggers are awaited, and behind that line the captures of sessions in words, or none; or a beginning
+abbrev pub LeavesListening : ℕ → Option (List ℕ) → Option (List ℕ) → Type 0
+LeavesListening status old new = (port : ℕ) × (captures : List (List ℕ)) × LeavesText status (listening_line port ++ shown_texts captures) old new
+
+-- what a run with this status leaves: nothing, what it told of a capture or a recording, the program's version, or the line of a port and what
+-- came behind it
 abbrev pub Leaves : ℕ → Option (List ℕ) → Option (List ℕ) → Type 0
 Leaves status old new =
     Keeps old new ⊎ (LeavesCapture status old new ⊎ (LeavesVersion status old new ⊎ (LeavesListening status old new ⊎ LeavesRecorded status old new)))
@@ -62,3 +76,13 @@ LeavesCaptureTold result old new = MatchResult result (λ told. Leaves (status_o
 -- by what the words led to
 abbrev pub LeavesOutcome : Result Outcome Fault → Option (List ℕ) → Option (List ℕ) → Type 0
 LeavesOutcome result old new = MatchResult result (λ outcome. Leaves (status_of_outcome outcome) old new) (λ fault. Leaves (status_of_fault fault) old new)
+
+-- by what one session of a recorder led to: captures in words, where more are to be recorded; else by what the words led to
+abbrev pub LeavesSession : Result (Option Outcome) Fault → Option (List ℕ) → Option (List ℕ) → Type 0
+LeavesSession (Ok None) old new = (captures : List (List ℕ)) × Appends old new (shown_texts captures)
+LeavesSession (Ok (Some outcome)) old new = LeavesShown (status_of_outcome outcome) old new
+LeavesSession (Err fault) old new = LeavesShown (status_of_fault fault) old new
+
+-- by what all sessions of a recorder led to
+abbrev pub LeavesSessions : Result Outcome Fault → Option (List ℕ) → Option (List ℕ) → Type 0
+LeavesSessions result old new = MatchResult result (λ outcome. LeavesShown (status_of_outcome outcome) old new) (λ fault. LeavesShown (status_of_fault fault) old new)

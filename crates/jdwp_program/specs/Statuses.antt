@@ -3,10 +3,12 @@ use Rattle.std.specs.Prelude.{ℕ}
 use Rattle.jdwp_end.specs.declared.pipes.ended.Ended.{Ended}
 use Rattle.jdwp_end.specs.declared.pipes.ended.Ended.TheVariants as ended
 use Rattle.jdwp_plan_run.specs.Endings.{status_of}
+use Rattle.jdwp_record.specs.declared.faults.RecordFault.{RecordFault}
+use Rattle.jdwp_record.specs.declared.faults.RecordFault.TheVariants as recorder
 use Rattle.jdwp_program.specs.declared.captures.Told.{Told}
 use Rattle.jdwp_program.specs.declared.captures.Told.TheVariants.{Faultless, Faulty, Unread}
 use Rattle.jdwp_program.specs.declared.fault.Fault.{Fault}
-use Rattle.jdwp_program.specs.declared.fault.Fault.TheVariants.{Words, NotText, File, Script, Plan, Written, Recording, Port, Output, Closed, NoMemory}
+use Rattle.jdwp_program.specs.declared.fault.Fault.TheVariants.{Words, NotText, File, Script, Plan, Written, Recording, Recorder, Port, Output, Closed, NoMemory}
 use Rattle.jdwp_program.specs.declared.outcome.Outcome.{Outcome}
 use Rattle.jdwp_program.specs.declared.outcome.Outcome.TheVariants.{Session, Lost, RefusedLine, Standstill, Planned, Capture, Version}
 
@@ -35,6 +37,15 @@ status_of_outcome (Planned verdict) = status_of verdict
 status_of_outcome (Capture told) = status_of_told told
 status_of_outcome (Version told) = status_of_told told
 
+-- where no further session is recorded
+abbrev pub status_of_recorder : RecordFault → ℕ
+status_of_recorder (recorder.NoFile file error) = 1
+status_of_recorder (recorder.Port number cause) = 2
+status_of_recorder (recorder.Unwritten file error) = 2
+status_of_recorder (recorder.Unread file error) = 2
+status_of_recorder (recorder.Waiting error) = 2
+status_of_recorder recorder.NoMemory = 3
+
 -- where no session began and no capture was told
 abbrev pub status_of_fault : Fault → ℕ
 status_of_fault (Words text) = 1
@@ -44,6 +55,7 @@ status_of_fault (Script path fault detail) = 1
 status_of_fault (Plan path fault) = 1
 status_of_fault (Written path fault) = 1
 status_of_fault (Recording path fault) = 1
+status_of_fault (Recorder fault) = status_of_recorder fault
 status_of_fault (Port number cause) = 2
 status_of_fault (Output error) = 2
 status_of_fault (Closed error) = 2

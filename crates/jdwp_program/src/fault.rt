@@ -2,11 +2,13 @@
 ghost use Rattle.std.specs.Prelude.{◌≡◌, ◌≤◌, MatchResult};
 ghost use Rattle.std.specs.Str.{IsUtf8};
 ghost use Rattle.jdwp_program.specs.Files.{IsNotText, begins_as_recording, begins_with_mark};
+ghost use Rattle.jdwp_program.specs.Statuses.{status_of_recorder};
 ghost use Rattle.jdwp_program.specs.declared.fault.Fault.TheVariants as fault;
 
 use crate::captures::TellFault;
 use jdwp_attach::PlanFault;
 use jdwp_port::{PortCause, PortFault};
+use jdwp_record::RecordFault;
 use jdwp_recording::RecordingFault;
 use jdwp_script::{Detail, ScriptFault};
 use jdwp_wire::NoMemory;
@@ -42,6 +44,9 @@ pub enum Fault<'a> {
     /// A port that can't be taken, reached or used, and why.
     #[error("port {0}: {1}")]
     Port(u16, PortCause),
+    /// No further session is recorded.
+    #[error("{0}")]
+    Recorder(RecordFault),
     /// The output can't be written.
     #[error("the output can't be written: {0}")]
     Output(io::Error),
@@ -147,7 +152,8 @@ impl<'a> Fault<'a> {
         }
     }
 
-    /// The exit status: 2 for a port that can't be used, output that can't be written and a standard stream that is closed, 3 for want of memory, else 1.
+    /// The exit status: 2 for a port that can't be used, a capture or output that can't be written and a standard stream that is closed, 3 for want of
+    /// memory, else 1.
     pub fn status(&self) -> u8
         ensures status { result ≡ status_of_fault self.now }
         ensures bound { result ≤ 4 }
@@ -160,8 +166,38 @@ impl<'a> Fault<'a> {
             | Fault::Plan(_, _)
             | Fault::Written(_, _)
             | Fault::Recording(_, _) => 1,
+            Fault::Recorder(fault) => status_of_recorder(fault),
             Fault::Port(_, _) | Fault::Output(_) | Fault::Closed(_) => 2,
             Fault::NoMemory => 3,
+        }
+    }
+}
+
+/// The exit status where no further session is recorded for this cause.
+fn status_of_recorder(fault: &RecordFault) -> u8
+    ensures status { result ≡ status_of_recorder fault.now }
+    ensures bound { result ≤ 3 }
+{
+    match fault {
+        RecordFault::NoFile(_, _) => 1,
+        RecordFault::Port(_, _)
+        | RecordFault::Unwritten(_, _)
+        | RecordFault::Unread(_, _)
+        | RecordFault::Waiting(_) => 2,
+        RecordFault::NoMemory => 3,
+    }
+}
+
+impl<'a> From<RecordFault> for Fault<'a> {
+    ghost use Rattle.jdwp_program.specs.Files.{fault_of_recorder};
+
+    ghost from_gives = { λ r f. f ≡ fault_of_recorder r };
+
+    fn from(error: RecordFault) -> Fault<'a> {
+        match error {
+            RecordFault::Port(port, cause) => Fault::Port(port, cause),
+            RecordFault::NoMemory => Fault::NoMemory,
+            fault => Fault::Recorder(fault),
         }
     }
 }

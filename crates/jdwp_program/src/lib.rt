@@ -30,5 +30,5 @@ pub use recordings::{Recorded, report_connections, session_of};
 pub use values::{decimal, is_all, limits, order, profile};
 pub use version::{VERSION, tell_version};
 pub use words::{
-    Attach, Between, CaptureFile, Emptied, Pair, Peer, ServeScript, SessionFiles, Words,
+    Attach, Between, CaptureFile, Emptied, Pair, Peer, Record, ServeScript, SessionFiles, Words,
 };

@@ -7,7 +7,7 @@ use crate::outcome::{Outcome, report_outcome};
 use crate::printing::print;
 use jdwp_end::Ended;
 use jdwp_live::{LiveCause, LiveNotice};
-use jdwp_port::Notice;
+use jdwp_port::{Notice, PortCause};
 use std::alloc::Global;
 use std::io::Write;
 
@@ -52,7 +52,21 @@ impl<'a, E: Write> Lines<'a, E> {
     pub fn tell_live(&mut self, notice: LiveNotice)
         ensures { Counts (dropped_by self.old) (dropped_by self.new) }
     {
-        if self.is_taken(notice) {
+        self.tell_at(self.port, notice);
+    }
+
+    /// Tells that the target that listens at this port was not reached, and why.
+    pub fn tell_unreached(&mut self, port: u16, cause: PortCause)
+        ensures { Counts (dropped_by self.old) (dropped_by self.new) }
+    {
+        self.tell_at(port, LiveNotice::Port(Notice::Lost(cause)));
+    }
+
+    /// Tells this of the port in a line.
+    fn tell_at(&mut self, port: u16, notice: LiveNotice)
+        ensures { Counts (dropped_by self.old) (dropped_by self.new) }
+    {
+        if self.is_taken(port, notice) {
             self.dropped = 0;
         } else {
             self.dropped = self.dropped.saturating_add(1);
@@ -70,11 +84,11 @@ impl<'a, E: Write> Lines<'a, E> {
     }
 
     /// Whether the line is taken whole, and with it how many were dropped before it.
-    fn is_taken(&mut self, notice: LiveNotice) -> bool
+    fn is_taken(&mut self, port: u16, notice: LiveNotice) -> bool
         ensures { dropped_by self.new ≡ dropped_by self.old }
     {
         let mut line = Vec::new(self.alloc);
-        self.push_dropped(&mut line) && self.push_notice(notice, &mut line) && self.takes(&line)
+        self.push_dropped(&mut line) && push_notice(port, notice, &mut line) && self.takes(&line)
     }
 
     /// Appends how many lines were dropped, if any were. Whether there is memory for it.
@@ -88,34 +102,33 @@ impl<'a, E: Write> Lines<'a, E> {
             .is_ok()
     }
 
-    /// Appends what is told. Whether there is memory for it.
-    fn push_notice(&self, notice: LiveNotice, line: &mut Vec<u8>) -> bool {
-        match notice {
-            LiveNotice::Port(Notice::Refused(number)) => {
-                report_outcome(Outcome::Session(Ended::Refused(number)), line);
-            }
-            LiveNotice::Port(Notice::Lost(cause)) => {
-                report_outcome(Outcome::Lost(Loss::Port(self.port, cause)), line);
-            }
-            LiveNotice::Port(Notice::Again(cause)) => {
-                let port = self.port;
-                let _ = writeln!(
-                    line,
-                    "jdwp: port {port}: no connection is taken, and another call is made: {cause}"
-                );
-            }
-            LiveNotice::NoHandshake => {
-                let (port, cause) = (self.port, LiveCause::NoHandshake);
-                let _ = writeln!(line, "jdwp: port {port}: {cause}");
-            }
-        }
-        line.ends_with(b"\n")
-    }
-
     /// Whether the text is taken whole.
     fn takes(&mut self, text: &[u8]) -> bool
         ensures { dropped_by self.new ≡ dropped_by self.old }
     {
         print(self.err, text).1.is_ok()
     }
+}
+
+/// Appends what is told of this port. Whether there is memory for it.
+fn push_notice(port: u16, notice: LiveNotice, line: &mut Vec<u8>) -> bool {
+    match notice {
+        LiveNotice::Port(Notice::Refused(number)) => {
+            report_outcome(Outcome::Session(Ended::Refused(number)), line);
+        }
+        LiveNotice::Port(Notice::Lost(cause)) => {
+            report_outcome(Outcome::Lost(Loss::Port(port, cause)), line);
+        }
+        LiveNotice::Port(Notice::Again(cause)) => {
+            let _ = writeln!(
+                line,
+                "jdwp: port {port}: no connection is taken, and another call is made: {cause}"
+            );
+        }
+        LiveNotice::NoHandshake => {
+            let cause = LiveCause::NoHandshake;
+            let _ = writeln!(line, "jdwp: port {port}: {cause}");
+        }
+    }
+    line.ends_with(b"\n")
 }

@@ -1,6 +1,6 @@
 //! What the words of the command line say.
 ghost use Rattle.std.specs.Prelude.{◌≡◌, ◌↔◌, None};
-ghost use Rattle.jdwp_program.specs.Words.{KeepsFile, KeepsFiles, KeepsFromCases};
+ghost use Rattle.jdwp_program.specs.Words.{KeepsFile, KeepsFiles, KeepsFromCases, KeepsPair};
 
 use jdwp_debuggee::Settings;
 use jdwp_debugger::Order;
@@ -21,6 +21,8 @@ pub enum Words<'a> {
     Check(CaptureFile<'a>),
     /// `capture FILE`: the capture of a session in a recording of the network.
     Capture(CaptureFile<'a>),
+    /// `record`: what a debugger and a target send is handed on and written down.
+    Record(Record<'a>),
     /// `--version`: the program's name and version are told.
     Version,
 }
@@ -93,14 +95,14 @@ pub struct Attach<'a> {
     pub junit: Option<&'a str>,
 }
 
-/// `pair MACHINE PLAN [--memory] [--order one|apart] [--start all|none] [--limits L] [--defer] [--turns N]`.
+/// `pair MACHINE PLAN [--memory] [--order one|apart] [--start all|none] [--limits L] [--defer] [--turns N] [--junit F]`.
 #[derive(Clone, Copy, Debug, PartialEq, Eq)]
 pub struct Pair<'a> {
     /// The file of the machine's script.
     pub machine: &'a str,
     /// The file of the plan.
     pub plan: &'a str,
-    /// What is between both ends.
+    /// What is between both ends, where the plan is in numbers; one in words has memory between them.
     pub between: Between,
     /// In which order the debugger takes the target to send replies and events.
     pub order: Order,
@@ -110,6 +112,23 @@ pub struct Pair<'a> {
     pub defer: bool,
     /// How many rounds the run has at most.
     pub turns: u32,
+    /// Where the expectations of a plan in words are told as test cases, in JUnit's XML.
+    pub junit: Option<&'a str>,
+}
+
+/// `record --listen N --port N --to F [--show] [--once]`.
+#[derive(Clone, Copy, Debug, PartialEq, Eq)]
+pub struct Record<'a> {
+    /// The port of 127.0.0.1 at which debuggers connect, 1 to 65,535; 0: one that the system chooses.
+    pub listen: u16,
+    /// The port of 127.0.0.1 at which the target listens, 1 to 65,535.
+    pub port: u16,
+    /// The file of the first session's capture. Each other session's has its number behind a dot behind the name.
+    pub to: &'a str,
+    /// Whether each session is shown in words once it is over.
+    pub show: bool,
+    /// Whether the first session that is recorded is the last.
+    pub once: bool,
 }
 
 /// What is between both ends of a session in this process.
@@ -142,12 +161,31 @@ impl Words<'_> {
                 None => words.peer.emptied_by_cases(words.junit, words.plan),
                 emptied => emptied,
             },
-            Words::Pair(_)
-            | Words::Show(_)
+            Words::Pair(words) => words.emptied(),
+            Words::Show(_)
             | Words::Check(_)
             | Words::Capture(_)
+            | Words::Record(_)
             | Words::Version => None,
         }
+    }
+}
+
+impl Pair<'_> {
+    /// A file that is read, by name, where test cases are to be written to it.
+    fn emptied(&self) -> Option<Emptied>
+        ensures { (result ≡ None) ↔ KeepsPair self.now }
+    {
+        let cases = self.junit?;
+        let file = match cases {
+            _ if cases == self.machine => "MACHINE",
+            _ if cases == self.plan => "PLAN",
+            _ => return None,
+        };
+        Some(Emptied {
+            option: "--junit",
+            file,
+        })
     }
 }
 

@@ -1,4 +1,4 @@
-use Rattle.std.proofs.Common.{◌⊎◌, inr}
+use Rattle.std.proofs.Common.{inr}
 use Rattle.jdwp_files.proofs.files.attach_bytes.Goals as goal
 
 pub returns-in-Err-clause-fault : goal.returns-in-Err-clause-fault

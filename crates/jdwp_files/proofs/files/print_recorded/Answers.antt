@@ -1,4 +1,4 @@
-use Rattle.std.proofs.Common.{inl, inr, refl}
+use Rattle.std.proofs.Common.{inr, refl}
 use Rattle.jdwp_files.proofs.Recorded.{behind, left}
 use Rattle.jdwp_files.proofs.files.print_recorded.Goals as goal
 

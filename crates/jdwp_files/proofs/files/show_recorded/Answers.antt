@@ -1,4 +1,4 @@
-use Rattle.std.proofs.Common.{inl, inr, refl}
+use Rattle.std.proofs.Common.{inl, refl}
 use Rattle.jdwp_files.proofs.Recorded.{behind}
 use Rattle.jdwp_files.proofs.files.show_recorded.Goals as goal
 

@@ -1,17 +1,19 @@
 //! The words of the command line, read.
 ghost use Rattle.std.specs.Prelude.{◌≡◌, IfOk, true};
-ghost use Rattle.jdwp_files.specs.Commands as commands;
-ghost use Rattle.jdwp_files.specs.Commands.{RunsPlanOnlyWhere};
+ghost use Rattle.jdwp_words.specs.Commands as commands;
+ghost use Rattle.jdwp_words.specs.Commands.{RunsPlanOnlyWhere};
 ghost use Rattle.jdwp_program.specs.Words.{KeepsFiles};
 
+use crate::arguments::{file, flag, listen, once, option, recorded_to, show, target};
+use crate::refusing::{bad_words, refused};
 use clap::error::ErrorKind;
-use clap::{Arg, ArgAction, ArgMatches, Command, Error, value_parser};
+use clap::{Arg, ArgMatches, Command, value_parser};
 use jdwp_debuggee::Settings;
 use jdwp_debugger::Order;
 use jdwp_machine::Profile;
 use jdwp_program::{
-    Attach, Between, CaptureFile, Emptied, Fault, Pair, Peer, ServeScript, SessionFiles, VERSION,
-    Words, decimal, is_all, limits, order, profile,
+    Attach, Between, CaptureFile, Emptied, Fault, Pair, Peer, Record, ServeScript, SessionFiles,
+    VERSION, Words, decimal, is_all, limits, order, profile,
 };
 use jdwp_wire::Limits;
 use jdwp_wire::number::GREATEST_INT;
@@ -30,6 +32,7 @@ enum Name {
     ServeScript,
     Attach,
     Pair,
+    Record,
 }
 
 impl Name {
@@ -42,6 +45,7 @@ impl Name {
             Name::ServeScript => "serve-script",
             Name::Attach => "attach",
             Name::Pair => "pair",
+            Name::Record => "record",
         }
     }
 
@@ -54,6 +58,7 @@ impl Name {
             Name::ServeScript => "jdwp serve-script",
             Name::Attach => "jdwp attach",
             Name::Pair => "jdwp pair",
+            Name::Record => "jdwp record",
         }
     }
 
@@ -73,6 +78,9 @@ impl Name {
             Name::Pair => {
                 "Runs a plan as the debugger of a script's machine, both ends in this process, over a connection at 127.0.0.1 or over memory"
             }
+            Name::Record => {
+                "Stands between debuggers and a target at ports, hands on what both send, and writes it down as captures"
+            }
         }
     }
 
@@ -84,6 +92,7 @@ impl Name {
             Name::ServeScript => &OF_SERVE_SCRIPT,
             Name::Attach => &OF_ATTACH,
             Name::Pair => &OF_PAIR,
+            Name::Record => &OF_RECORD,
         }
     }
 }
@@ -112,6 +121,11 @@ enum Part {
     Turns(&'static str),
     Timeout,
     Junit,
+    Listen,
+    Target,
+    RecordedTo,
+    Show,
+    Once,
 }
 
 static OF_A_CAPTURE: [Part; 3] = [
@@ -157,15 +171,26 @@ static OF_ATTACH: [Part; 9] = [
     Part::Junit,
 ];
 
-static OF_PAIR: [Part; 8] = [
+static OF_PAIR: [Part; 9] = [
     Part::Machine,
-    Part::Plan("As of `attach`, and lines `lose target`, `lose debugger` and `attach`"),
+    Part::Plan(
+        "As of `attach`, and in numbers lines `lose target`, `lose debugger` and `attach`, too",
+    ),
     Part::Memory,
     Part::Order,
     Part::Start,
     Part::Limits,
     Part::Defer,
     Part::Turns("How many rounds the run has at most"),
+    Part::Junit,
+];
+
+static OF_RECORD: [Part; 5] = [
+    Part::Listen,
+    Part::Target,
+    Part::RecordedTo,
+    Part::Show,
+    Part::Once,
 ];
 
 /// Reads the words, the first of which is the program's name.
@@ -201,6 +226,7 @@ fn name_of(words: &Words<'_>) -> Name {
         Words::ServeScript(_) => Name::ServeScript,
         Words::Attach(_) => Name::Attach,
         Words::Pair(_) => Name::Pair,
+        Words::Record(_) => Name::Record,
         Words::Show(_) => Name::Show,
         Words::Capture(_) => Name::Capture,
         Words::Check(_) | Words::Version => Name::Check,
@@ -235,6 +261,7 @@ fn read_matches<'a, S: AsStr>(
         Some(("check", found)) => Ok(Words::Check(read_capture(alloc, found, Name::Check)?)),
         Some(("capture", found)) => Ok(Words::Capture(read_capture(alloc, found, Name::Capture)?)),
         Some(("serve-script", found)) => Ok(Words::ServeScript(read_serve_script(alloc, found)?)),
+        Some(("record", found)) => Ok(Words::Record(read_record(alloc, found)?)),
         Some((name, found)) if runs_plan(words) => read_session(alloc, name, found),
         _ => Err(bad_words(alloc, command(alloc), "a command is missing")),
     }
@@ -428,6 +455,17 @@ fn read_pair<'a>(alloc: Global, found: &ArgMatches<'a>) -> Result<Pair<'a>, Faul
         between: read_between(found),
         order: read_order(alloc, found, Name::Pair)?,
         turns: number(alloc, found, "turns", Name::Pair)?,
+        junit: found.get_str("junit"),
+    })
+}
+
+fn read_record<'a>(alloc: Global, found: &ArgMatches<'a>) -> Result<Record<'a>, Fault<'a>> {
+    Ok(Record {
+        listen: port_number(alloc, found, "listen", Name::Record)?,
+        port: port_number(alloc, found, "port", Name::Record)?,
+        to: value(alloc, found, "to")?,
+        show: found.get_flag("show"),
+        once: found.get_flag("once"),
     })
 }
 
@@ -525,42 +563,6 @@ fn named_in_full<'a>(alloc: Global, name: Name) -> Result<Command<'a>, AllocErro
     named(alloc, name)?.bin_name(name.in_full())
 }
 
-/// Words that clap takes and the program doesn't, told with the usage of this command.
-fn bad_words<'a>(
-    alloc: Global,
-    command: Result<Command<'_>, AllocError>,
-    message: &str,
-) -> Fault<'a> {
-    match told(command, message) {
-        Ok(error) => refused(alloc, &error),
-        Err(_) => Fault::NoMemory,
-    }
-}
-
-/// What clap would say of them.
-fn told(command: Result<Command<'_>, AllocError>, message: &str) -> Result<Error, AllocError> {
-    command?.error(ErrorKind::ValueValidation, message)
-}
-
-/// What clap says of words that it refuses, or of the help that they ask for.
-fn refused<'a>(alloc: Global, error: &Error) -> Fault<'a> {
-    if error.kind() == ErrorKind::OutOfMemory {
-        return Fault::NoMemory;
-    }
-    match error.to_string(alloc) {
-        Ok(text) => Fault::Words(without_line_end(text)),
-        Err(_) => Fault::NoMemory,
-    }
-}
-
-/// The text without the end of its last line.
-fn without_line_end(mut text: String) -> String {
-    if text.as_str().ends_with('\n') {
-        text.pop();
-    }
-    text
-}
-
 /// The program's command, with those of its words behind it.
 fn command<'a>(alloc: Global) -> Result<Command<'a>, AllocError> {
     let commands = commands(alloc)?;
@@ -586,6 +588,7 @@ fn commands<'a>(alloc: Global) -> Result<Vec<Command<'a>>, AllocError> {
         Name::ServeScript,
         Name::Attach,
         Name::Pair,
+        Name::Record,
     ] {
         commands.push(named(alloc, name)?)?;
     }
@@ -631,6 +634,11 @@ fn argument_of<'a>(alloc: Global, part: Part) -> Result<Arg<'a>, AllocError> {
         Part::Turns(help) => Ok(turns(alloc, help)),
         Part::Timeout => timeout(alloc),
         Part::Junit => Ok(junit(alloc)),
+        Part::Listen => Ok(listen(alloc)),
+        Part::Target => Ok(target(alloc)),
+        Part::RecordedTo => Ok(recorded_to(alloc)),
+        Part::Show => Ok(show(alloc)),
+        Part::Once => Ok(once(alloc)),
     }
 }
 
@@ -689,7 +697,8 @@ fn pace<'a>(alloc: Global) -> Result<Arg<'a>, AllocError> {
 
 /// That nothing but memory is between both ends of a session.
 fn memory<'a>(alloc: Global) -> Arg<'a> {
-    let help = "Bytes go from one end to the other in memory, and no connection is made";
+    let help =
+        "Bytes go from one end to the other in memory, and no connection is made, as a plan in words always has it";
     flag(alloc, "memory", help)
 }
 
@@ -779,30 +788,4 @@ fn stream<'a>(alloc: Global) -> Arg<'a> {
     )
     .value_parser(value_parser!(u32).range(1..=i64::from(GREATEST_INT)))
     .default_value("1")
-}
-
-/// A file by its place among the words.
-fn file<'a>(alloc: Global, name: &'a str, shown: &'a str, help: &'a str) -> Arg<'a> {
-    argument(alloc, name, shown, help).required(true)
-}
-
-/// An option with a value, which stands at most once.
-fn option<'a>(alloc: Global, name: &'a str, shown: &'a str, help: &'a str) -> Arg<'a> {
-    argument(alloc, name, shown, help).long(name)
-}
-
-/// An option without a value, which stands at most once.
-fn flag<'a>(alloc: Global, name: &'a str, help: &'a str) -> Arg<'a> {
-    Arg::new(alloc, name)
-        .long(name)
-        .help(help)
-        .action(ArgAction::SetTrue)
-}
-
-/// An argument with one value.
-fn argument<'a>(alloc: Global, name: &'a str, shown: &'a str, help: &'a str) -> Arg<'a> {
-    Arg::new(alloc, name)
-        .value_name(shown)
-        .help(help)
-        .action(ArgAction::Set)
 }
