@@ -13,6 +13,7 @@ BOTH_ENDS is crates/both_ends/out/both_ends and PROGRAM crates/jdwp/out/jdwp whe
 """
 
 import contextlib
+import json
 import os
 import subprocess
 import sys
@@ -20,7 +21,7 @@ import tempfile
 
 sys.dont_write_bytecode = True  # no folder of them beside the scripts
 
-from ports import ROOT, debugger, pinned, target
+from ports import ROOT, debugger, machine_that_stands, pinned, target
 
 ROUNDS, COMMANDS, READS = 400, 250, 2
 
@@ -56,9 +57,8 @@ def rate(seconds, times):
     return times * len(fastest) / sum(fastest)
 
 
-def asked(both_ends, program, client):
-    """The rates of a client, of a debugger by hand, and of C, at a target of its own each."""
-    script = os.path.join(ROOT, "examples", "A.json")
+def asked(both_ends, program, client, script):
+    """The rates of a client, of a debugger by hand, and of C, at a target of its own each, whose threads can't step."""
     targets = [target(program, script) for _ in range(3)]
     found = [[], [], []]
     with contextlib.ExitStack() as stack:
@@ -95,7 +95,10 @@ def main():
     with tempfile.TemporaryDirectory() as folder:
         client = os.path.join(folder, "port_client")
         subprocess.run(["cc", "-O2", "-o", client, os.path.join(ROOT, "bench", "port_client.c")], check=True)
-        ours, by_hand, by_c = asked(both_ends, program, client)
+        script = os.path.join(folder, "stands.json")
+        with open(script, "w", encoding="ascii") as file:
+            json.dump(machine_that_stands(), file)
+        ours, by_hand, by_c = asked(both_ends, program, client, script)
     print(f"one at a time: a client {ours:,.0f} commands a second, by hand {by_hand:,.0f}, in C {by_c:,.0f}")
     print(f"one at a time: {ours / by_hand:.2f} of the bare engine's rate (to reach: 0.9), {ours / by_c:.2f} of C's", flush=True)
     typed, untyped = read(both_ends)

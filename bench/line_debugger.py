@@ -6,7 +6,9 @@ Each session gets the same command lines, and has to print the same: only ids of
 at a JVM each, since its VM_START may come before or behind the first commands. Then `frames_at` stops at the first method of the class, in a session of its
 own at each. Prints a line for each target, and the status is 1 where one is not as it has to be.
 
-    bench/line_debugger.py [DEBUGGER] [FRAMES_AT] [PROGRAM]
+    bench/line_debugger.py [--no-java] [DEBUGGER] [FRAMES_AT] [PROGRAM]
+
+With `--no-java` the JVM is left out: so the gate runs it.
 
 DEBUGGER is crates/line_debugger/out/line_debugger, FRAMES_AT crates/frames_at/out/frames_at and PROGRAM crates/jdwp/out/jdwp where none is given; `rt run` in
 those folders builds them.
@@ -101,7 +103,7 @@ class Served:
 
 
 def main():
-    words = [os.path.abspath(word) for word in sys.argv[1:]]
+    words = [os.path.abspath(word) for word in sys.argv[1:] if word != "--no-java"]
     places = [os.path.join(ROOT, "crates", name, "out", name) for name in ("line_debugger", "frames_at", "jdwp")]
     debugger, frames_at, program = [*words, *places[len(words) :]]
     fine = True
@@ -109,8 +111,8 @@ def main():
         fine &= judge("the scripted machine", differences(printed(debugger, target.port)))
     with Served([program, "serve-script", SCRIPT, "--port", "0", "--live"]) as target:
         fine &= judge("the scripted machine, frames", frames(frames_at, target.port))
-    if not shutil.which("javac"):
-        print("no JDK: the JVM is left out")
+    if "--no-java" in sys.argv or not shutil.which("javac"):
+        print("the JVM is left out")
         sys.exit(not fine)
     with tempfile.TemporaryDirectory() as classes:
         subprocess.run(["javac", "-g", "-d", classes, JAVA], check=True)
