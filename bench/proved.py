@@ -128,7 +128,7 @@ jdwp_engine | serve_session served; serve_script fault untouched | A new target'
 jdwp_port | serve_sessions serves closed; serve_stream served; attach_stream ran | Sessions at a port are those of `serve` and `attach`, one after the other with one target
 jdwp_program | check_capture tells leaves; show_capture tells leaves; attach_session ran; Outcome::of_session; Fault::status status; limits | What the writer took is the verdict, or the lines and the fault, or a beginning. How a session's end is told, with which status; numbers of the command line
 jdwp_words | read runs keeps | Words run a plan only for `attach` or `pair`, and write to no file that they read, by name
-jdwp_partner | Partner::session | A `Partner`, the target of `pair` by a plan in words, is fed what is written, and what is read is what it put, in order
+jdwp_partner | Partner::session | A `Partner` (`pair` by a plan in words) is fed what is written while its session is open, and what is read is what it put, in order
 jdwp_files | run bound leaves | The status says what is on standard output, but for `attach` and `pair`
 jdwp_relay | Duct::take_in takes passed; Duct::hand_on hands passed | A recorder's direction: what came is what went and what waits; its end is handed on once, behind all of that
 jdwp_relay | Relay::turn recorded covered; Relay::run relaying recorded covered; lines_read_again | Its capture is lines of just what came, in order, and reads so; what went is a beginning of what whole lines hold
