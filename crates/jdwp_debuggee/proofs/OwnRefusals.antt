@@ -26,19 +26,20 @@ use Rattle.jdwp_machine.specs.declared.query.Query.{Query}
 use Rattle.jdwp_machine.specs.Meanings.{Meaning}
 use Rattle.jdwp_action.specs.Actions
 use Rattle.jdwp_action.specs.Actions.{Action, Carried, Command, Content, action_by, action_of, clear_action, first_object, other_action, set_action, slots_of, thread_action, thread_of}
-use Rattle.jdwp_action.specs.CommandReads.{command_read, content_read, read_by, with_content}
+use Rattle.jdwp_action.specs.CommandReads.{command_read, content_read, with_content}
 use Rattle.jdwp_action.specs.RowLayouts.{row_request}
 use Rattle.jdwp_debuggee.specs.Answers.{bounded, query_of}
 use Rattle.jdwp_debuggee.specs.Askings.{carries_nothing, carries_thread, is_short}
 use Rattle.jdwp_debuggee.specs.Effects.{answer_frames, answer_thread, answered, does, effect, effect_by, refused, set_by, slots_at, slots_by}
 use Rattle.jdwp_machine.specs.declared.profile.Profile.{Profile}
-use Rattle.jdwp_debuggee.specs.Answering.{is_answered, read_as}
+use Rattle.jdwp_machine.specs.Profiles.{CLASS_PATHS, adds_raw}
+use Rattle.jdwp_debuggee.specs.Answering.{is_answered, is_read, read_as, unread_as, with_bytes}
 use Rattle.jdwp_debuggee.specs.ReadParts.{AsksFor, begin_with_object, begins_with_thread, answered_request, unread}
 use Rattle.jdwp_debuggee.specs.Refusals.{is_some_count, kind_refusal, modifiers_refusal, or_else, room_refusal, set_refusal, shape_refusal, unless}
 use Rattle.jdwp_debuggee.specs.Settings.{Settings}
 use Rattle.jdwp_debuggee.specs.State.{State, Moment, count_of}
 use Rattle.jdwp_debuggee.specs.Wants.{MayWant, asks_of_frames, early_refusal, is_positive, own_refusal, refusal_by_count}
-use Rattle.jdwp_debuggee.proofs.Read.{read_is, unread_is}
+use Rattle.jdwp_debuggee.proofs.Read.{raw_place, read_is, unread_is}
 
 -- ---- what was read, part by part
 
@@ -255,12 +256,27 @@ refuses-none p settings state w set number bytes items c begins e found read =
     subst (λ (x : Command). None ≡ own_refusal settings state (action_of x)) is
     (sym (ap (λ (o : Option ℕ). own_refusal settings state (action_by o (with_content set number content))) thread ∙ own-other settings state (with_content set number content) (no-set set number begins)))
 
-pub refuses-unread : (p : Profile) (w : Widths) (set number : ℕ) (bytes : List ℕ) (c : Command) (P : Type 0) → answered_request p set number ≡ None → read_as p w set number bytes ≡ Ok c → P
-refuses-unread p w set number bytes c P e read = let apart = sym (unread_is p w set number bytes e) ∙ read in absurd cc
+-- a raw command that is answered is of none of these sets
+pub unread-raw : (set number : ℕ) (bytes : List ℕ) (c : Command) (r : Bool) → unread_as set number bytes r ≡ Ok c → (r ≡ true) × (with_bytes set number bytes ≡ c)
+unread-raw set number bytes c true e = (refl, cc)
+unread-raw set number bytes c false e = absurd cc
+
+read-raw : (p : Profile) (w : Widths) (set number : ℕ) (bytes : List ℕ) (c : Command) → answered_request p set number ≡ None → read_as p w set number bytes ≡ Ok c → (adds_raw p set number ≡ true) × (with_bytes set number bytes ≡ c)
+read-raw p w set number bytes c e read = unread-raw set number bytes c (adds_raw p set number) (sym (unread_is p w set number bytes e) ∙ read)
+
+pub refuses-unread : (p : Profile) (w : Widths) (set number : ℕ) (bytes : List ℕ) (c : Command) (P : Type 0) → begins_with_thread set ≡ true → answered_request p set number ≡ None → read_as p w set number bytes ≡ Ok c → P
+refuses-unread p w set number bytes c P begins e read =
+    let is = raw_place p set number (read-raw p w set number bytes c e read).0 in
+    let apart : begins_with_thread CLASS_PATHS.set ≡ true = rw is.0 at begins in absurd cc
+
+refuses-raw : (p : Profile) (settings : Settings) (state : State) (set number : ℕ) (bytes : List ℕ) → adds_raw p set number ≡ true → None ≡ own_refusal settings state (action_of (with_bytes set number bytes))
+refuses-raw p settings state set number bytes h = let is = raw_place p set number h in rw (is.0, is.1) refl
 
 refuses-by : (p : Profile) (settings : Settings) (state : State) (w : Widths) (set number : ℕ) (bytes : List ℕ) (o : Option (List ItemShape)) (c : Command) → begins_with_thread set ≡ false → is_command SET_REQUEST set number ≡ false
     → answered_request p set number ≡ o → read_as p w set number bytes ≡ Ok c → None ≡ own_refusal settings state (action_of c)
-refuses-by p settings state w set number bytes None c begins off e read = refuses-unread p w set number bytes c _ e read
+refuses-by p settings state w set number bytes None c begins off e read =
+    let raw = read-raw p w set number bytes c e read in
+    subst (λ (x : Command). None ≡ own_refusal settings state (action_of x)) raw.1 (refuses-raw p settings state set number bytes raw.0)
 refuses-by p settings state w set number bytes (Some items) c begins off e read =
     let parts = read-content p w set number bytes items c e read in
     let content = parts.0 in
@@ -320,18 +336,27 @@ does-refused m settings now c (Actions.AskFrames t) e h = frames-refused m setti
 does-refused m settings now c (Actions.AskThread t) e h = thread-refused m settings now c (count_of now.state t) e h
 does-refused m settings now c a e h = absurd cc
 
--- a command that reads is implemented
-answered-by : (p : Profile) (w : Widths) (set number : ℕ) (bytes : List ℕ) (b : Bool) (c : Command) → is_answered p (unread set number) ≡ b → read_by w set number bytes b ≡ Ok c → is_answered p c ≡ true
-answered-by p w set number bytes true c impl read =
-    let found = content-of set number (data_at w (row_request (row_at set number)) bytes) c read in
-    subst (λ (x : Command). is_answered p x ≡ true) found.2 impl
-answered-by p w set number bytes false c impl read = absurd cc
+-- a command that reads is answered
+pub or-left : (a b : Bool) → a ≡ true → (a || b) ≡ true
+or-left a b h = rw h refl
+
+pub or-right : (a b : Bool) → b ≡ true → (a || b) ≡ true
+or-right true b h = refl
+or-right false b h = h
+
+answered-by : (p : Profile) (set number : ℕ) (bytes : List ℕ) (found : Result (List DatumMeaning) DataFault) (b : Bool) (c : Command) → is_read p (unread set number) ≡ b
+    → (if b then content_read set number found else unread_as set number bytes (adds_raw p set number)) ≡ Ok c → is_answered p c ≡ true
+answered-by p set number bytes found true c is read =
+    subst (λ (x : Command). is_answered p x ≡ true) (content-of set number found c read).2 (or-left (is_read p (unread set number)) (adds_raw p set number) is)
+answered-by p set number bytes found false c is read =
+    let raw = unread-raw set number bytes c (adds_raw p set number) read in
+    subst (λ (x : Command). is_answered p x ≡ true) raw.1 (or-right (is_read p (unread set number)) (adds_raw p set number) raw.0)
 
 pub effect-refused : {S : Type 0} (m : Meaning S) (settings : Settings) (now : Moment S) (w : Widths) (set number : ℕ) (bytes : List ℕ) (c : Command) (r : Option ErrorCode) → read_as settings.profile w set number bytes ≡ Ok c
     → r ≡ own_refusal settings now.state (action_of c) → IfSome r (λ e. effect m settings now c ≡ refused now e)
 effect-refused m settings now w set number bytes c None read is = tt
 effect-refused m settings now w set number bytes c (Some e) read is =
-    let on = answered-by settings.profile w set number bytes (is_answered settings.profile (unread set number)) c refl read in
+    let on = answered-by settings.profile set number bytes (data_at w (row_request (row_at set number)) bytes) (is_read settings.profile (unread set number)) c refl read in
     ap (λ (b : Bool). effect_by m settings now c b) on ∙ does-refused m settings now c (action_of c) e (sym is)
 
 -- ---- what is refused so wants no memory

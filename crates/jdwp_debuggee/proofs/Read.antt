@@ -12,7 +12,6 @@ use Rattle.jdwp_layout.specs.declared.datum.Scalar.{Scalar}
 use Rattle.jdwp_wire.specs.declared.data_fault.DataFault.{DataFault}
 use Rattle.jdwp_wire.specs.declared.no_memory.NoMemory.{NoMemory}
 use Rattle.jdwp_wire.specs.declared.error_code.ErrorCode.{ErrorCode}
-use Rattle.jdwp_wire.specs.ErrorCodes.{NOT_IMPLEMENTED}
 use Rattle.jdwp_wire.specs.Widths.{Widths}
 use Rattle.jdwp_layout.specs.CommandNumbers.{CommandNumber, is_command, SUSPEND, RESUME, HOLD_EVENTS, RELEASE_EVENTS, ID_SIZES, DISPOSE, CLEAR_ALL_BREAKPOINTS, SUSPEND_THREAD, RESUME_THREAD, THREAD_STATUS, SUSPEND_COUNT, CLEAR_REQUEST}
 use Rattle.jdwp_layout.specs.CommandTable.{row_at}
@@ -21,11 +20,13 @@ use Rattle.jdwp_layout.specs.Reads.{data_at}
 use Rattle.jdwp_layout.specs.Shapes.{ItemShape}
 use Rattle.jdwp_debuggee.specs.declared.command.ParsedCommand.{ParsedCommand}
 use Rattle.jdwp_action.specs.Actions.{Command, slot_of, is_implemented}
-use Rattle.jdwp_action.specs.CommandReads.{command_read, content_read, read_by, with_content}
+use Rattle.jdwp_action.specs.CommandReads.{command_read, content_read, with_content}
 use Rattle.jdwp_action.specs.RowLayouts.{row_request}
 use Rattle.jdwp_debuggee.specs.Askings.{Asking, asked_meaning, asks, asking_of, carries_nothing, carries_thread, is_short}
 use Rattle.jdwp_machine.specs.declared.profile.Profile.{Profile}
-use Rattle.jdwp_debuggee.specs.Answering.{is_answered, read_as}
+use Rattle.jdwp_machine.specs.declared.profile.Profile.TheVariants.{Standard, Jdi}
+use Rattle.jdwp_machine.specs.Profiles.{CLASS_PATHS, adds_raw}
+use Rattle.jdwp_debuggee.specs.Answering.{is_read, read_as, unread_as}
 use Rattle.jdwp_debuggee.specs.ReadParts.{IsBare, answered_request, unread}
 
 -- one entry more of a list of slots
@@ -52,27 +53,40 @@ short_as_bare set number P result thread clear h =
     ∙ (ap (λ (x : Bool). carries_nothing set number || (false || x)) clear ∙ or_none (carries_nothing set number)) in
     subst (λ (b : Bool). MatchOption result (b ≡ false) (λ asked. (b ≡ true) × P asked)) (sym same) h
 
+both_true : (a b : Bool) → (a && b) ≡ true → (a ≡ true) × (b ≡ true)
+both_true true b h = (refl, h)
+both_true false b h = absurd cc
+
 -- ---- a command that is implemented is read by its layout, and another is not read
 
 some_is : (x y : List ItemShape) → Some x ≡ Some y → x ≡ y
 some_is x y e = cc
 
-read_by_is : (w : Widths) (set number : ℕ) (bytes : List ℕ) (b : Bool) (items : List ItemShape) → (if b then Some (row_request (row_at set number)) else None) ≡ Some items
-    → read_by w set number bytes b ≡ content_read set number (data_at w items bytes)
-read_by_is w set number bytes true items e = ap (λ (shapes : List ItemShape). content_read set number (data_at w shapes bytes)) (some_is _ _ e)
-read_by_is w set number bytes false items e = absurd cc
+-- a command whose data are read or not, and which is raw and answered or not
+abbrev read_where : Widths → ℕ → ℕ → List ℕ → Bool → Bool → Result Command ErrorCode
+read_where w set number bytes b r = if b then content_read set number (data_at w (row_request (row_at set number)) bytes) else unread_as set number bytes r
+
+read_by_is : (w : Widths) (set number : ℕ) (bytes : List ℕ) (b r : Bool) (items : List ItemShape) → (if b then Some (row_request (row_at set number)) else None) ≡ Some items
+    → read_where w set number bytes b r ≡ content_read set number (data_at w items bytes)
+read_by_is w set number bytes true r items e = ap (λ (shapes : List ItemShape). content_read set number (data_at w shapes bytes)) (some_is _ _ e)
+read_by_is w set number bytes false r items e = absurd cc
 
 pub read_is : (p : Profile) (w : Widths) (set number : ℕ) (bytes : List ℕ) (items : List ItemShape) → answered_request p set number ≡ Some items
     → read_as p w set number bytes ≡ content_read set number (data_at w items bytes)
-read_is p w set number bytes items e = read_by_is w set number bytes (is_answered p (unread set number)) items e
+read_is p w set number bytes items e = read_by_is w set number bytes (is_read p (unread set number)) (adds_raw p set number) items e
 
-unread_by : (w : Widths) (set number : ℕ) (bytes : List ℕ) (b : Bool) → (if b then Some (row_request (row_at set number)) else None) ≡ None
-    → read_by w set number bytes b ≡ Err NOT_IMPLEMENTED
-unread_by w set number bytes true e = absurd cc
-unread_by w set number bytes false e = refl
+unread_by : (w : Widths) (set number : ℕ) (bytes : List ℕ) (b r : Bool) → (if b then Some (row_request (row_at set number)) else None) ≡ None
+    → read_where w set number bytes b r ≡ unread_as set number bytes r
+unread_by w set number bytes true r e = absurd cc
+unread_by w set number bytes false r e = refl
 
-pub unread_is : (p : Profile) (w : Widths) (set number : ℕ) (bytes : List ℕ) → answered_request p set number ≡ None → read_as p w set number bytes ≡ Err NOT_IMPLEMENTED
-unread_is p w set number bytes e = unread_by w set number bytes (is_answered p (unread set number)) e
+pub unread_is : (p : Profile) (w : Widths) (set number : ℕ) (bytes : List ℕ) → answered_request p set number ≡ None → read_as p w set number bytes ≡ unread_as set number bytes (adds_raw p set number)
+unread_is p w set number bytes e = unread_by w set number bytes (is_read p (unread set number)) (adds_raw p set number) e
+
+-- a raw command that is answered is ClassPaths
+pub raw_place : (p : Profile) (set number : ℕ) → adds_raw p set number ≡ true → (set ≡ CLASS_PATHS.set) × (number ≡ CLASS_PATHS.number)
+raw_place Standard set number h = absurd cc
+raw_place Jdi set number h = let is = both_true (set == CLASS_PATHS.set) (number == CLASS_PATHS.number) h in (eqb-true set CLASS_PATHS.set is.0, eqb-true number CLASS_PATHS.number is.1)
 
 asks_is : (p : Profile) (w : Widths) (set number : ℕ) (bytes : List ℕ) (items : List ItemShape) → answered_request p set number ≡ Some items
     → asks (read_as p w set number bytes) ≡ asks (content_read set number (data_at w items bytes))
@@ -100,10 +114,6 @@ pub asks_nothing : (w : Widths) (set number : ℕ) (a : Asking) (bytes : List �
 asks_nothing w set number a bytes law none = sym (bare_reads w set number a bytes law (nothing_at w bytes none))
 
 -- ---- a command that is read without memory is answered in each profile
-
-both_true : (a b : Bool) → (a && b) ≡ true → (a ≡ true) × (b ≡ true)
-both_true true b h = (refl, h)
-both_true false b h = absurd cc
 
 implemented_at : (k : CommandNumber) (set number : ℕ) → is_implemented (unread k.set k.number) ≡ true → is_command k set number ≡ true → is_implemented (unread set number) ≡ true
 implemented_at k set number impl h =

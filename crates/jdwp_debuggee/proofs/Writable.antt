@@ -31,7 +31,7 @@ use Rattle.jdwp_debuggee.specs.declared.reply.Reply.TheVariants as reply
 use Rattle.jdwp_debuggee.specs.declared.reply.Sent.TheVariants as sent
 
 by-shapes : {S : Type 0} (m : Meaning S) (s : S) (shapes : Option RowShapes) (content : List DatumMeaning) → FitsShapes m s shapes content → AreWritable (m.sizes s) (shapes_reply shapes) content
-by-shapes m s None content h = absurd h
+by-shapes m s None content h = h
 by-shapes m s (Some shapes) content h = h
 
 by-row : {S : Type 0} (m : Meaning S) (s : S) (row : Option Row) (content : List DatumMeaning) → FitsRow m s row content → AreWritable (m.sizes s) (row_reply row) content

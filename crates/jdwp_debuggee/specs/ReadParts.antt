@@ -14,7 +14,7 @@ use Rattle.jdwp_action.specs.Actions.{Action, Command, Raw, is_implemented}
 use Rattle.jdwp_action.specs.CommandReads.{with_content}
 use Rattle.jdwp_action.specs.RowLayouts.{row_request}
 use Rattle.jdwp_machine.specs.declared.profile.Profile.{Profile}
-use Rattle.jdwp_debuggee.specs.Answering.{is_answered}
+use Rattle.jdwp_debuggee.specs.Answering.{is_read}
 use Rattle.jdwp_debuggee.specs.Askings.{Asking, asking_of}
 
 abbrev pub unread : ℕ → ℕ → Command
@@ -37,9 +37,9 @@ clear_asks (Err fault) = Err ILLEGAL_ARGUMENT
 
 -- ---- layouts
 
--- the layout of a command's data, where the command is answered in the profile
+-- the layout of a command's data, where they are read in the profile
 abbrev pub answered_request : Profile → ℕ → ℕ → Option (List ItemShape)
-answered_request profile set number = if is_answered profile (unread set number) then Some (row_request (row_at set number)) else None
+answered_request profile set number = if is_read profile (unread set number) then Some (row_request (row_at set number)) else None
 
 -- ---- what data begin with
 

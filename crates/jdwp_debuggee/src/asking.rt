@@ -7,10 +7,13 @@ ghost use Rattle.jdwp_debuggee.specs.Answers.{all_threads, bounded, query_of};
 ghost use Rattle.jdwp_debuggee.specs.Debuggees.{CarriesOut};
 ghost use Rattle.jdwp_debuggee.specs.Effects.{does};
 ghost use Rattle.jdwp_debuggee.specs.Replies.{reply_meaning};
-ghost use Rattle.jdwp_action.specs.AnswerPackets.{EncodesAnswer, IsWritable};
+ghost use Rattle.jdwp_action.specs.AnswerPackets.{AreWritable, EncodesAnswer, EncodesReply, IsWritable};
+ghost use Rattle.jdwp_action.specs.RowLayouts.{row_reply};
 ghost use Rattle.jdwp_debuggee.specs.Sending.{IsSent, sent_bytes};
 ghost use Rattle.jdwp_debuggee.specs.Wants.{is_live, is_suspended};
 ghost use Rattle.jdwp_layout.specs.CommandNumbers as commands;
+ghost use Rattle.jdwp_layout.specs.CommandTable.{row_at};
+ghost use Rattle.jdwp_layout.specs.Writes.{data_canonical};
 ghost use Rattle.jdwp_layout.specs.Meanings.{Many, Object};
 ghost use Rattle.jdwp_machine.specs.Laws.{takes_memory};
 
@@ -24,6 +27,44 @@ use jdwp_machine::{Machine, Query};
 use jdwp_value::{FrameId, ObjectId, Value};
 use jdwp_wire::{DataFault, ErrorCode, IdSizes, NoMemory};
 use std::alloc::Global;
+
+/// The data of a reply as they are written: in the layout of their row's reply, and bytes, which a raw row's are, as they are.
+///
+/// # Errors
+/// `NoMemory` where an allocation was refused.
+fn written(
+    alloc: Global,
+    set: u8,
+    number: u8,
+    sizes: &IdSizes,
+    content: &Data,
+) -> Result<Vec<u8>, NoMemory>
+    requires { AreWritable sizes.now (row_reply (row_at set number)) content.now }
+    ensures value { IfOk result (λ bytes. bytes.items ≡ data_canonical sizes.now content.now) }
+    ensures encoded { IfOk result (λ _.
+        EncodesReply sizes.now (row_reply (row_at set number)) content.now) }
+{
+    let Some(layout) = reply_layout(set, number) else {
+        return match content.raw() {
+            Some(bytes) => Ok(Vec::from_slice(alloc, bytes)?),
+            None => unreachable!(),
+        };
+    };
+    let mut bytes = Vec::new(alloc);
+    match write(&layout, sizes, content.items(), &mut bytes) {
+        Ok(()) => Ok(bytes),
+        Err(DataFault::NoMemory) => Err(NoMemory),
+        Err(
+            DataFault::Short(_)
+            | DataFault::Extra(_)
+            | DataFault::BadTag
+            | DataFault::NegativeCount
+            | DataFault::NotUtf8
+            | DataFault::BadSize
+            | DataFault::IdTooWide,
+        ) => unreachable!(),
+    }
+}
 
 /// An answer to a command of this set and number, ready to be sent; `INTERNAL` where it is longer than a packet.
 ///
@@ -50,23 +91,7 @@ fn sent(
         Answer::Error(error) => return Ok(Sent::Short(Reply::Refused(error))),
         Answer::Data(content) => content,
     };
-    let Some(layout) = reply_layout(set, number) else {
-        unreachable!();
-    };
-    let mut bytes = Vec::new(alloc);
-    match write(&layout, sizes, content.items(), &mut bytes) {
-        Ok(()) => {}
-        Err(DataFault::NoMemory) => return Err(NoMemory),
-        Err(
-            DataFault::Short(_)
-            | DataFault::Extra(_)
-            | DataFault::BadTag
-            | DataFault::NegativeCount
-            | DataFault::NotUtf8
-            | DataFault::BadSize
-            | DataFault::IdTooWide,
-        ) => unreachable!(),
-    }
+    let bytes = written(alloc, set, number, sizes, &content)?;
     if bytes.len() + 11 > settings.limits().packet() as usize {
         return Ok(Sent::Short(Reply::Refused(ErrorCode::INTERNAL)));
     }

@@ -22,7 +22,7 @@ use jdwp_layout::numbers::{
     THREAD_REFERENCE, THREAD_STATUS, VIRTUAL_MACHINE,
 };
 use jdwp_layout::{Data, Layout, layout_of, read};
-use jdwp_machine::Profile;
+use jdwp_machine::{Profile, Query};
 use jdwp_value::ObjectId;
 use jdwp_wire::{DataFault, ErrorCode, IdSizes, NoMemory, Wire};
 use std::alloc::Global;
@@ -162,7 +162,7 @@ fn refused(fault: DataFault) -> Result<ParsedCommand, NoMemory>
     }
 }
 
-/// The layout of a command's data, where the command is answered in the profile.
+/// The layout of a command's data, where they are read in the profile.
 pub(crate) fn request_of(profile: Profile, set: u8, number: u8) -> Option<Layout>
     ensures { found_layout result ≡ answered_request profile set number }
 {
@@ -174,10 +174,26 @@ pub(crate) fn request_of(profile: Profile, set: u8, number: u8) -> Option<Layout
     Some(layouts.request)
 }
 
+/// What a command comes to whose data are not read in the profile: a raw one that is answered is a question with no data, and another is
+/// refused.
+fn unread(alloc: Global, profile: Profile, set: u8, number: u8) -> ParsedCommand
+    ensures { (w : Widths) (bytes : List ℕ) → answered_request profile set number ≡ None
+        → asked_meaning result ≡ asks (read_as profile w set number bytes) }
+{
+    if !profile.adds_raw(set, number) {
+        return ParsedCommand::Refuses(ErrorCode::NOT_IMPLEMENTED);
+    }
+    ParsedCommand::Carries(Action::Ask(Query {
+        set,
+        number,
+        content: Data::new(Vec::new(alloc)),
+    }))
+}
+
 /// What a command of this set and number comes to in the profile that has these bytes as its data.
 ///
 /// A command that is not answered in the profile is refused with `NOT_IMPLEMENTED`, and its data are not read; one whose data do not read, or
-/// leave bytes over, with `ILLEGAL_ARGUMENT`. These take no memory: VirtualMachine's Suspend, Resume, HoldEvents, ReleaseEvents,
+/// leave bytes over, with `ILLEGAL_ARGUMENT`. The data of a raw one that is answered are not read. These take no memory: VirtualMachine's Suspend, Resume, HoldEvents, ReleaseEvents,
 /// IDSizes and Dispose; ThreadReference's Suspend, Resume, Status and SuspendCount; EventRequest's Clear and ClearAllBreakpoints. What
 /// these ask for is carried out without memory, too.
 ///
@@ -204,7 +220,7 @@ pub fn read_command(
         return Ok(asked);
     }
     let Some(layout) = request_of(profile, set, number) else {
-        return Ok(ParsedCommand::Refuses(ErrorCode::NOT_IMPLEMENTED));
+        return Ok(unread(alloc, profile, set, number));
     };
     match read(alloc, &layout, sizes, bytes) {
         Ok(items) => {

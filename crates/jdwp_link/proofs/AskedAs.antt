@@ -1,5 +1,5 @@
 -- What was asked is read by the layout of its row in each profile.
-use Rattle.std.proofs.Common.{◌≡◌, ℕ, ◌∙◌, ◌||◌, ◌&&◌, ◌==◌, Bool, true, false, Option, Some, None, Result, Ok, refl, inl, inr, ◌⊎◌}
+use Rattle.std.proofs.Common.{◌≡◌, ℕ, ◌∙◌, ◌||◌, ◌&&◌, ◌==◌, Bool, true, false, Option, Some, None, Result, Ok, refl, ap, inl, inr, ◌⊎◌}
 use Rattle.std.proofs.lemmas.Bool.{cases_Bool, eqb-true, false≢true}
 use Rattle.jdwp_wire.specs.declared.error_code.ErrorCode.{ErrorCode}
 use Rattle.jdwp_wire.specs.Widths.{Widths}
@@ -11,13 +11,14 @@ use Rattle.jdwp_layout.specs.Writes.{data_canonical}
 use Rattle.jdwp_layout.proofs.GrammarLaws.{data_again}
 use Rattle.jdwp_machine.specs.declared.profile.Profile.{Profile}
 use Rattle.jdwp_machine.specs.declared.profile.Profile.TheVariants.{Standard, Jdi}
-use Rattle.jdwp_machine.specs.Profiles.{SOURCE_DEBUG_EXTENSION, OWNED_MONITORS, CONTENDED_MONITOR, is_added, adds}
+use Rattle.jdwp_machine.specs.Profiles.{SOURCE_DEBUG_EXTENSION, OWNED_MONITORS, CONTENDED_MONITOR, is_added, adds, adds_raw}
 use Rattle.jdwp_action.specs.Actions.{Carried, Content, Raw, Command, is_implemented, is_some_shapes}
 use Rattle.jdwp_action.specs.CommandPackets.{carried_bytes}
 use Rattle.jdwp_action.specs.CommandReads.{content_read}
 use Rattle.jdwp_action.specs.RowLayouts.{row_request, shapes_request}
 use Rattle.jdwp_debugger.specs.Asking.{EncodesCommand, EncodesRow, EncodesShapes, ReadsAsAsked, read_where}
 use Rattle.jdwp_debuggee.specs.Answering.{is_answered, read_as}
+use Rattle.jdwp_debuggee.proofs.Read.{raw_place}
 
 -- ---- rows that a profile adds have layouts
 
@@ -65,6 +66,22 @@ by_row : (w : Widths) (set number : ℕ) (row : Option Row) (carried : Carried) 
 by_row w set number None carried some h = absurd h
 by_row w set number (Some row) carried some h = by_shapes w set number row.shapes carried some h
 
+-- what a raw command carries is its bytes
+raw_row : (p : Profile) (set number : ℕ) → adds_raw p set number ≡ true → has_shapes (row_at set number) ≡ false
+raw_row p set number h = let is = raw_place p set number h in rw (is.0, is.1) refl
+
+raw_by : (w : Widths) (shapes : Option RowShapes) (carried : Carried) → is_some_shapes shapes ≡ false → EncodesShapes w shapes carried → Raw (carried_bytes w carried) ≡ carried
+raw_by w None (Raw bytes) none h = refl
+raw_by w None (Content content) none h = absurd h
+raw_by w (Some shapes) carried none h = absurd cc
+
+raw_carried : (w : Widths) (row : Option Row) (carried : Carried) → has_shapes row ≡ false → EncodesRow w row carried → Raw (carried_bytes w carried) ≡ carried
+raw_carried w None carried none h = absurd h
+raw_carried w (Some row) carried none h = raw_by w row.shapes carried none h
+
+abbrev read_ok : Command → Result Command ErrorCode
+read_ok c = Ok c
+
 -- ---- in each profile
 
 pub asked_as : (p : Profile) (w : Widths) (c : Command) → EncodesCommand w c → ReadsAsAsked w c → read_as p w c.set c.number (carried_bytes w c.carried) ≡ read_where c (is_answered p c)
@@ -72,6 +89,9 @@ asked_as p w c h reads = elim (cases_Bool (is_implemented c)) [
   | inl i ↦ let standard = rw i at reads in rw i standard
   | inr i ↦ elim (cases_Bool (adds p c.set c.number)) [
     | inl a ↦ rw (i, a) (by_row w c.set c.number (row_at c.set c.number) c.carried (added_row p c.set c.number a) h)
-    | inr a ↦ rw (i, a) refl
+    | inr a ↦ elim (cases_Bool (adds_raw p c.set c.number)) [
+      | inl r ↦ rw (i, a, r) (ap (λ (x : Carried). read_ok (this c.set c.number x)) (raw_carried w (row_at c.set c.number) c.carried (raw_row p c.set c.number r) h))
+      | inr r ↦ rw (i, a, r) refl
+    ]
   ]
 ]

@@ -1,5 +1,5 @@
 -- What every machine keeps.
-use Rattle.std.specs.Prelude.{◌≡◌, ◌≢◌, ℕ, ℤ, ◌<◌, ◌≤◌, Bool, true, false, ◌==◌, ◌||◌, ◌&&◌, not, pos, ◌⊎◌, List, [], ◌∷◌, length, Option, Some, None}
+use Rattle.std.specs.Prelude.{◌≡◌, ◌≢◌, ℕ, ℤ, ◌<◌, ◌≤◌, Bool, true, false, ◌==◌, ◌||◌, ◌&&◌, not, pos, ◌⊎◌, List, [], ◌∷◌, length, Option, Some, None, IsSome}
 use Rattle.std.specs.List.{IsDistinct}
 use Rattle.jdwp_wire.specs.declared.error_code.ErrorCode.{ErrorCode}
 use Rattle.jdwp_wire.specs.ErrorCodes.{INVALID_THREAD, THREAD_NOT_SUSPENDED, INVALID_CLASS, INVALID_METHODID, INVALID_LOCATION}
@@ -18,7 +18,7 @@ use Rattle.jdwp_layout.specs.EventKindNumbers.{BREAKPOINT}
 use Rattle.jdwp_layout.specs.ModifierKindNumbers.{LOCATION_ONLY}
 use Rattle.jdwp_layout.specs.Rows.{Row, RowShapes}
 use Rattle.jdwp_layout.specs.Writes.{data_refusal}
-use Rattle.jdwp_layout.specs.Meanings.{Byte, Int, Object, Located, DatumMeaning, One, Many}
+use Rattle.jdwp_layout.specs.Meanings.{Byte, Int, Object, Located, DatumMeaning, One, Many, raw_bytes}
 use Rattle.jdwp_event.specs.Composites.{POLICY_NONE}
 use Rattle.jdwp_event.specs.Occurrences.{OccurrenceMeaning, Moved, Entered, Left, Threw, Prepared, Started, RanOut, started, runs_out}
 use Rattle.jdwp_machine.specs.declared.query.Query.{Query}
@@ -52,9 +52,9 @@ asks_slots q thread = begins_with q.content thread && is_command GET_SLOTS q.set
 abbrev pub asks_frames : Query → ℕ → Bool
 asks_frames q thread = asks_places q thread || asks_slots q thread
 
--- data in the layout of a row's reply, whose ids fit
+-- data in the layout of a row's reply, whose ids fit; in a raw row, bytes
 abbrev pub FitsShapes : {S : Type 0} → Meaning S → S → Option RowShapes → List DatumMeaning → Type 0
-FitsShapes m s None content = ⊥
+FitsShapes m s None content = IsSome (raw_bytes content)
 FitsShapes m s (Some shapes) content = data_refusal (m.sizes s) shapes.reply content ≡ None
 
 abbrev pub FitsRow : {S : Type 0} → Meaning S → S → Option Row → List DatumMeaning → Type 0
@@ -159,7 +159,7 @@ pub record IsLawful {S : Type 0} (m : Meaning S) : Type 0 where
   pub frames_written : (s : S) (t f u : ℕ) (values : List (ℤ × Value)) (q : Query) → m.is_state s → t ≢ u → asks_frames q u ≡ true → m.query (m.written s t f values) q ≡ m.query s q
   pub places_written : (s : S) (t f : ℕ) (values : List (ℤ × Value)) (q : Query) → m.is_state s → asks_places q t ≡ true → m.query (m.written s t f values) q ≡ m.query s q
   pub values_written : (s : S) (t f : ℕ) (values : List (ℤ × Value)) (q : Query) → m.is_state s → asks_slots q t ≡ true → KeepsValues (m.query s q) (m.query (m.written s t f values) q)
-  -- Data are in the layout of the row's reply, and errors are a machine's.
+  -- Data are in the layout of the row's reply, or bytes where the row is raw; and errors are a machine's.
   pub answers : (s : S) (q : Query) → m.is_state s → MayAnswer m s q.set q.number (m.query s q)
   pub write_answers : (s : S) (t f : ℕ) (values : List (ℤ × Value)) → m.is_state s → MayAnswer m s SET_SLOTS.set SET_SLOTS.number (m.write_answer s t f values)
   pub short_signature : (s : S) (t : ℕ) → MayEnds m s t → HasShortSignature (m.next s t).occurrence

@@ -1,9 +1,12 @@
--- What a target answers in a profile beside what it answers in each: commands that the table of commands stars
--- (JDWP specification, "Protocol Details").
+-- What a target answers in a profile beside what it answers in each: commands that the table of commands stars, and raw ones, whose data
+-- it does not read (JDWP specification, "Protocol Details").
 use Rattle.std.specs.Prelude.{ℕ, Bool, false, ◌||◌}
-use Rattle.jdwp_layout.specs.CommandNumbers.{CommandNumber, is_command, REFERENCE_TYPE, THREAD_REFERENCE}
+use Rattle.jdwp_layout.specs.CommandNumbers.{CommandNumber, is_command, VIRTUAL_MACHINE, REFERENCE_TYPE, THREAD_REFERENCE}
 use Rattle.jdwp_machine.specs.declared.profile.Profile.{Profile}
 use Rattle.jdwp_machine.specs.declared.profile.Profile.TheVariants.{Standard, Jdi}
+
+abbrev pub CLASS_PATHS : CommandNumber
+CLASS_PATHS = record { set = VIRTUAL_MACHINE; number = 13 }
 
 abbrev pub SOURCE_DEBUG_EXTENSION : CommandNumber
 SOURCE_DEBUG_EXTENSION = record { set = REFERENCE_TYPE; number = 12 }
@@ -21,3 +24,8 @@ is_added set number = is_command SOURCE_DEBUG_EXTENSION set number || (is_comman
 abbrev pub adds : Profile → ℕ → ℕ → Bool
 adds Standard set number = false
 adds Jdi set number = is_added set number
+
+-- whether a raw command is answered in a profile: by bytes, and whatever bytes it carries
+abbrev pub adds_raw : Profile → ℕ → ℕ → Bool
+adds_raw Standard set number = false
+adds_raw Jdi set number = is_command CLASS_PATHS set number

@@ -1,8 +1,11 @@
 //! What a target is made for.
 ghost use Rattle.std.specs.Prelude.{◌≡◌};
-ghost use Rattle.jdwp_machine.specs.Profiles.{adds, is_added};
+ghost use Rattle.jdwp_machine.specs.Profiles.{adds, adds_raw, is_added};
 
-use jdwp_layout::numbers::{REFERENCE_TYPE, THREAD_REFERENCE};
+use jdwp_layout::numbers::{REFERENCE_TYPE, THREAD_REFERENCE, VIRTUAL_MACHINE};
+
+/// The number of VirtualMachine.ClassPaths.
+pub const CLASS_PATHS: u8 = 13;
 
 /// The number of ReferenceType.SourceDebugExtension.
 pub const SOURCE_DEBUG_EXTENSION: u8 = 12;
@@ -19,7 +22,7 @@ pub enum Profile {
     /// Nothing more.
     Standard,
     /// What debuggers over the Java Debug Interface ask for, as jdb and IDEs: a CLASS_UNLOAD may be requested and never happens, threads
-    /// and thread groups have a class, every class is in a module, and three starred commands are answered.
+    /// and thread groups have a class, every class is in a module, and three starred commands are answered, and a raw one.
     Jdi,
 }
 
@@ -31,6 +34,17 @@ impl Profile {
         match self {
             Profile::Standard => false,
             Profile::Jdi => is_added(set, number),
+        }
+    }
+
+    /// Whether a raw command of this set and number is answered in the profile. Its data are not read, whatever they are, and what it is
+    /// answered is bytes: VirtualMachine.ClassPaths, in `Jdi`.
+    pub fn adds_raw(self, set: u8, number: u8) -> bool
+        ensures { result ≡ adds_raw self set number }
+    {
+        match self {
+            Profile::Standard => false,
+            Profile::Jdi => set == VIRTUAL_MACHINE && number == CLASS_PATHS,
         }
     }
 }

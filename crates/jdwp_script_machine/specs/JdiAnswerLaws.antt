@@ -12,10 +12,10 @@ use Rattle.jdwp_layout.specs.declared.answer.Answer.{Answer}
 use Rattle.jdwp_layout.specs.declared.answer.Answer.TheVariants.{Data, Error}
 use Rattle.jdwp_layout.specs.declared.item.Field.TheVariants as field
 use Rattle.jdwp_layout.specs.CommandNumbers.{CommandNumber, is_command, OBJECT_TYPE, ALL_MODULES, CLASS_MODULE, MODULE_NAME, MODULE_CLASS_LOADER}
-use Rattle.jdwp_layout.specs.Meanings.{ScalarMeaning, Text, Object, Tagged, DatumMeaning, One, Many}
+use Rattle.jdwp_layout.specs.Meanings.{ScalarMeaning, Text, Object, Tagged, DatumMeaning, One, Many, Raw}
 use Rattle.jdwp_layout.specs.Shapes.{Fields}
 use Rattle.jdwp_layout.specs.Writes.{entry_refusal}
-use Rattle.jdwp_machine.specs.Profiles.{SOURCE_DEBUG_EXTENSION, OWNED_MONITORS, CONTENDED_MONITOR}
+use Rattle.jdwp_machine.specs.Profiles.{CLASS_PATHS, SOURCE_DEBUG_EXTENSION, OWNED_MONITORS, CONTENDED_MONITOR}
 use Rattle.jdwp_script.specs.Parts.{GroupPart, ClassPart, ThreadPart}
 use Rattle.jdwp_script_machine.specs.States.{State}
 use Rattle.jdwp_script_machine.specs.Sites.{class_in, group_in, thread_in}
@@ -24,7 +24,7 @@ use Rattle.jdwp_script_machine.specs.ClassAnswers.{module_entry}
 use Rattle.jdwp_script_machine.specs.ObjectAnswers.{type_answer, object_type_answer}
 use Rattle.jdwp_script_machine.specs.ModuleAnswers.{module_name_answer, module_loader_answer}
 use Rattle.jdwp_script_machine.specs.Answers.{answer_at}
-use Rattle.jdwp_script_machine.specs.JdiAnswers.{class_signed, class_named, class_by, class_of_id, TypeAsked, asked_of, type_asked, type_told, any_type_answer, greatest_id, fitting, unnamed_module, unnamed_entries, every_module, module_or_unnamed, any_module_answer, unnamed_asked, unnamed_told, any_name_answer, any_loader_answer, extension_answer, owned_answer, contended_answer, jdi_answer_at}
+use Rattle.jdwp_script_machine.specs.JdiAnswers.{class_paths_bytes, class_signed, class_named, class_by, class_of_id, TypeAsked, asked_of, type_asked, type_told, any_type_answer, greatest_id, fitting, unnamed_module, unnamed_entries, every_module, module_or_unnamed, any_module_answer, unnamed_asked, unnamed_told, any_name_answer, any_loader_answer, extension_answer, owned_answer, contended_answer, jdi_answer_at}
 use Rattle.jdwp_script_machine.specs.Sound.{Fits, ClassIsSound, ModuleIsSound, IsSound}
 use Rattle.jdwp_script_machine.specs.StateLaws.{either}
 use Rattle.jdwp_script_machine.specs.SoundLaws.{all_found, zero_fits}
@@ -138,6 +138,10 @@ any_loader_good s sound content =
 
 -- ---- what no script says
 
+raw_good : (s : State) (bytes : List ℕ) → Good s CLASS_PATHS (Data (Raw bytes ∷ []))
+unfolding Good
+raw_good s bytes = refl
+
 extension_good : (s : State) → Good s SOURCE_DEBUG_EXTENSION (Error ABSENT_INFORMATION)
 extension_good s = error_good s SOURCE_DEBUG_EXTENSION ABSENT_INFORMATION (above ABSENT_INFORMATION (omega arith) (omega arith))
 
@@ -161,10 +165,11 @@ at_command s k set number a b here there = elim (either (is_command k set number
 pub jdi_good : (s : State) → IsSound s → (set number : ℕ) (content : List DatumMeaning) → Good s (command_at set number) (answer_at s set number content) → Good s (command_at set number) (jdi_answer_at s set number content)
 jdi_good s sound set number content otherwise =
     at_command s OBJECT_TYPE set number _ _ (any_type_good s sound content) (
+    at_command s CLASS_PATHS set number _ _ (alone_good s CLASS_PATHS _ (raw_good s class_paths_bytes) content) (
     at_command s ALL_MODULES set number _ _ (alone_good s ALL_MODULES (every_module s.script) (every_good s sound) content) (
     at_command s CLASS_MODULE set number _ _ (class_good s CLASS_MODULE sound (any_module_answer s.script) (λ c h. alone_good s CLASS_MODULE _ (any_module_good s c h)) content) (
     at_command s MODULE_NAME set number _ _ (any_name_good s sound content) (
     at_command s MODULE_CLASS_LOADER set number _ _ (any_loader_good s sound content) (
     at_command s SOURCE_DEBUG_EXTENSION set number _ _ (class_good s SOURCE_DEBUG_EXTENSION sound extension_answer (λ c h. alone_good s SOURCE_DEBUG_EXTENSION _ (extension_good s)) content) (
     at_command s OWNED_MONITORS set number _ _ (thread_good s OWNED_MONITORS sound owned_answer (λ t h. alone_good s OWNED_MONITORS _ (owned_good s)) content) (
-    at_command s CONTENDED_MONITOR set number _ _ (thread_good s CONTENDED_MONITOR sound contended_answer (λ t h. alone_good s CONTENDED_MONITOR _ (contended_good s)) content) otherwise)))))))
+    at_command s CONTENDED_MONITOR set number _ _ (thread_good s CONTENDED_MONITOR sound contended_answer (λ t h. alone_good s CONTENDED_MONITOR _ (contended_good s)) content) otherwise))))))))

@@ -7,8 +7,9 @@ use Rattle.jdwp_value.specs.Values.{object_id}
 use Rattle.jdwp_layout.specs.declared.answer.Answer.{Answer}
 use Rattle.jdwp_layout.specs.declared.answer.Answer.TheVariants.{Data, Error}
 use Rattle.jdwp_layout.specs.CommandNumbers.{is_command, OBJECT_TYPE, ALL_MODULES, CLASS_MODULE, MODULE_NAME, MODULE_CLASS_LOADER}
-use Rattle.jdwp_layout.specs.Meanings.{ScalarMeaning, Text, Object, Tagged, DatumMeaning, One, Many}
-use Rattle.jdwp_machine.specs.Profiles.{SOURCE_DEBUG_EXTENSION, OWNED_MONITORS, CONTENDED_MONITOR}
+use Rattle.jdwp_layout.specs.Meanings.{ScalarMeaning, Text, Object, Tagged, DatumMeaning, One, Many, Raw}
+use Rattle.jdwp_layout.specs.Writes.{data_canonical}
+use Rattle.jdwp_machine.specs.Profiles.{CLASS_PATHS, SOURCE_DEBUG_EXTENSION, OWNED_MONITORS, CONTENDED_MONITOR}
 use Rattle.jdwp_script.specs.Parts.{GroupPart, ClassPart, ObjectPart, ThreadPart, ModulePart, ScriptPart}
 use Rattle.jdwp_script_machine.specs.States.{State}
 use Rattle.jdwp_script_machine.specs.Sites.{class_in, group_in, thread_in}
@@ -115,6 +116,17 @@ any_loader_answer script content = unnamed_told (Data (One (Object 0) ∷ [])) (
 
 -- ---- what no script says
 
+-- VirtualMachine.ClassPaths: the base directory is `/`, and there are no class paths and no boot class paths. The row is raw, so it is answered
+-- the bytes of these. No id stands in them, so that they are the same at all widths.
+abbrev pub class_paths_content : List DatumMeaning
+class_paths_content = One (Text (codes "/")) ∷ Many [] ∷ Many [] ∷ []
+
+abbrev pub class_paths_bytes : List ℕ
+class_paths_bytes = data_canonical (record { field = 8; method = 8; object = 8; reference = 8; frame = 8 }) class_paths_content
+
+abbrev pub class_paths_answer : Asks
+class_paths_answer = alone (Data (Raw class_paths_bytes ∷ []))
+
 -- ReferenceType.SourceDebugExtension: no class has one
 abbrev pub extension_answer : ClassPart → Asks
 extension_answer c = alone (Error ABSENT_INFORMATION)
@@ -131,6 +143,7 @@ contended_answer t = alone (Data (One (Tagged (object_id kind.Object 0)) ∷ [])
 abbrev pub jdi_answer_at : State → ℕ → ℕ → Asks
 jdi_answer_at s set number content =
     if is_command OBJECT_TYPE set number then any_type_answer s.script content else (
+    if is_command CLASS_PATHS set number then class_paths_answer content else (
     if is_command ALL_MODULES set number then alone (every_module s.script) content else (
     if is_command CLASS_MODULE set number then of_class s.script (any_module_answer s.script) content else (
     if is_command MODULE_NAME set number then any_name_answer s.script content else (
@@ -138,4 +151,4 @@ jdi_answer_at s set number content =
     if is_command SOURCE_DEBUG_EXTENSION set number then of_class s.script extension_answer content else (
     if is_command OWNED_MONITORS set number then of_thread s.script owned_answer content else (
     if is_command CONTENDED_MONITOR set number then of_thread s.script contended_answer content else
-    answer_at s set number content)))))))
+    answer_at s set number content))))))))

@@ -5,7 +5,7 @@ ghost use Rattle.jdwp_layout.specs.Meanings.{meanings};
 ghost use Rattle.jdwp_machine.specs.Laws.{takes_memory};
 ghost use Rattle.jdwp_script.specs.Meanings.{class_part, script_part};
 ghost use Rattle.jdwp_script_machine.specs.Found.{found};
-ghost use Rattle.jdwp_script_machine.specs.JdiAnswers.{any_module_answer, any_type_answer, class_named, class_of_id, class_signed, contended_answer, every_module, extension_answer, jdi_answer_at, owned_answer, type_asked};
+ghost use Rattle.jdwp_script_machine.specs.JdiAnswers.{any_module_answer, any_type_answer, class_named, class_of_id, class_paths_answer, class_signed, contended_answer, every_module, extension_answer, jdi_answer_at, owned_answer, type_asked};
 ghost use Rattle.jdwp_script_machine.specs.JdiQuestions.{asked_found};
 ghost use Rattle.jdwp_script_machine.specs.Requests.{alone, of_class, of_thread};
 ghost use Rattle.jdwp_script_machine.specs.StateMeanings.{state_now};
@@ -14,7 +14,7 @@ use crate::answers::answer_at;
 use crate::asked::{class_asked, thread_asked};
 use crate::object_answers::{class_told, object_type};
 use crate::places::{class_of, group_of, thread_of};
-use crate::replies::{of_entries, of_scalar};
+use crate::replies::{of_datum, of_entries, of_scalar};
 use crate::state::MachineState;
 use crate::unnamed_module::{every_module, module_loader, module_name, module_or_unnamed};
 use jdwp_layout::numbers::{
@@ -22,14 +22,16 @@ use jdwp_layout::numbers::{
     OBJECT_REFERENCE, OBJECT_TYPE, REFERENCE_TYPE, THREAD_REFERENCE, VIRTUAL_MACHINE,
 };
 use jdwp_layout::{Answer, Datum, Scalar};
-use jdwp_machine::profile::{CONTENDED_MONITOR, OWNED_MONITORS, SOURCE_DEBUG_EXTENSION};
+use jdwp_machine::profile::{
+    CLASS_PATHS, CONTENDED_MONITOR, OWNED_MONITORS, SOURCE_DEBUG_EXTENSION,
+};
 use jdwp_script::{Class, Script};
 use jdwp_value::{ObjectId, ObjectTag, ReferenceTypeId, TaggedId};
 use jdwp_wire::{ErrorCode, NoMemory};
 use std::alloc::Global;
 
-/// What a command of this set and number with these data is answered: threads and groups have a class, all classes are in a module, no
-/// class has a debug extension, and no thread a monitor; the others are answered as in the standard profile.
+/// What a command of this set and number with these data is answered: threads and groups have a class, all classes are in a module, there
+/// are no class paths, no class has a debug extension, and no thread a monitor; the others are answered as in the standard profile.
 ///
 /// # Errors
 /// `NoMemory` where an allocation was refused; a refusal takes no memory.
@@ -50,6 +52,7 @@ pub(crate) fn jdi_answer_at(
     let script = &state.script;
     match (set, number) {
         (OBJECT_REFERENCE, OBJECT_TYPE) => any_type(alloc, script, content),
+        (VIRTUAL_MACHINE, CLASS_PATHS) => class_paths(alloc, content),
         (VIRTUAL_MACHINE, ALL_MODULES) => all_modules(alloc, script, content),
         (REFERENCE_TYPE, CLASS_MODULE) => module_of_class(alloc, script, content),
         (MODULE_REFERENCE, MODULE_NAME) => module_name(alloc, state, content),
@@ -158,6 +161,25 @@ fn module_of_class(alloc: Global, script: &Script, content: &[Datum]) -> Result<
         }
         Ok(_) => Ok(Answer::Error(ErrorCode::ILLEGAL_ARGUMENT)),
         Err(error) => Ok(Answer::Error(error)),
+    }
+}
+
+/// The data of VirtualMachine.ClassPaths: the base directory `/`, and two lists of which nothing stands in either.
+static NO_CLASS_PATHS: [u8; 13] = [0, 0, 0, 1, b'/', 0, 0, 0, 0, 0, 0, 0, 0];
+
+/// The class paths and the boot class paths: none.
+fn class_paths(alloc: Global, content: &[Datum]) -> Result<Answer, NoMemory>
+    ensures value { IfOk result (λ a. a ≡ class_paths_answer (meanings content.now)) }
+    // A refusal takes no memory.
+    ensures memory { IfErr result (λ _.
+        IsTrue (takes_memory (class_paths_answer (meanings content.now)))) }
+{
+    match content {
+        [] => {
+            let bytes = Vec::from_slice(alloc, &NO_CLASS_PATHS)?;
+            of_datum(alloc, Datum::Raw(bytes))
+        }
+        _ => Ok(Answer::Error(ErrorCode::ILLEGAL_ARGUMENT)),
     }
 }
 

@@ -1,5 +1,5 @@
 -- What a command is answered is encoded by the bytes that are sent for it, whether it was carried out or refused.
-use Rattle.std.proofs.Common.{◌≡◌, ◌≢◌, ℕ, Bool, true, false, List, Some, Result, Ok, Err, refl, sym, subst, arith}
+use Rattle.std.proofs.Common.{◌≡◌, ◌≢◌, ℕ, Bool, true, false, List, Some, Result, Ok, Err, if◌then◌else◌, refl, sym, subst, arith}
 use Rattle.std.specs.Prelude.{IfErr, IfOk}
 use Rattle.jdwp_wire.specs.ErrorCodes.{ILLEGAL_ARGUMENT, NONE, NOT_IMPLEMENTED}
 use Rattle.jdwp_wire.specs.Streams.{Message, NextMessage, Packet, Whole}
@@ -15,10 +15,11 @@ use Rattle.jdwp_layout.specs.CommandTable.{row_at}
 use Rattle.jdwp_layout.specs.Meanings.{DatumMeaning}
 use Rattle.jdwp_layout.specs.Reads.{data_at}
 use Rattle.jdwp_machine.specs.Meanings.{Meaning}
-use Rattle.jdwp_action.specs.Actions.{Command, Raw, action_of}
-use Rattle.jdwp_action.specs.CommandReads.{content_read, read_by}
+use Rattle.jdwp_action.specs.Actions.{Command, action_of}
+use Rattle.jdwp_action.specs.CommandReads.{content_read}
 use Rattle.jdwp_machine.specs.declared.profile.Profile.{Profile}
-use Rattle.jdwp_debuggee.specs.Answering.{is_answered, read_as}
+use Rattle.jdwp_debuggee.specs.Answering.{is_read, read_as, unread_as, with_bytes}
+use Rattle.jdwp_machine.specs.Profiles.{adds_raw}
 use Rattle.jdwp_action.specs.RowLayouts.{row_request}
 use Rattle.jdwp_debuggee.specs.Askings.{asked_meaning, asking, asking_of, asks}
 use Rattle.jdwp_debuggee.specs.Debuggees.{Debuggee}
@@ -51,12 +52,13 @@ refused-content : (set number : ℕ) (found : Result (List DatumMeaning) DataFau
 refused-content set number (Ok content) x e = absurd cc
 refused-content set number (Err fault) x e = subst (λ (y : ErrorCode). y.0 ≢ NONE.0) (error-same ILLEGAL_ARGUMENT x e) (omega arith)
 
-refused-by : (w : Widths) (set number : ℕ) (bytes : List ℕ) (b : Bool) (x : ErrorCode) → read_by w set number bytes b ≡ Err x → x.0 ≢ NONE.0
-refused-by w set number bytes true x e = refused-content set number (data_at w (row_request (row_at set number)) bytes) x e
-refused-by w set number bytes false x e = subst (λ (y : ErrorCode). y.0 ≢ NONE.0) (error-same NOT_IMPLEMENTED x e) (omega arith)
+refused-by : (set number : ℕ) (bytes : List ℕ) (found : Result (List DatumMeaning) DataFault) (b r : Bool) (x : ErrorCode) → (if b then content_read set number found else unread_as set number bytes r) ≡ Err x → x.0 ≢ NONE.0
+refused-by set number bytes found true r x e = refused-content set number found x e
+refused-by set number bytes found false true x e = absurd cc
+refused-by set number bytes found false false x e = subst (λ (y : ErrorCode). y.0 ≢ NONE.0) (error-same NOT_IMPLEMENTED x e) (omega arith)
 
 was-refused : (p : Profile) (w : Widths) (set number : ℕ) (bytes : List ℕ) (x : ErrorCode) → read_as p w set number bytes ≡ Err x → x.0 ≢ NONE.0
-was-refused p w set number bytes x e = refused-by w set number bytes (is_answered p (record { set = set; number = number; carried = Raw bytes })) x e
+was-refused p w set number bytes x e = refused-by set number bytes (data_at w (row_request (row_at set number)) bytes) (is_read p (with_bytes set number bytes)) (adds_raw p set number) x e
 
 refused-read : {S : Type 0} (m : Meaning S) (settings : Settings) (now : Moment S) (w : Widths) (set number : ℕ) (error : ErrorCode) (read : Result Command ErrorCode)
     → ((x : ErrorCode) → read ≡ Err x → x.0 ≢ NONE.0) → Err error ≡ asks read → EncodesAnswer w set number (carried_out m settings now read).answer

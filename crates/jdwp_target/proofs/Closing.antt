@@ -16,9 +16,13 @@ use Rattle.jdwp_end.specs.Ends.{is_open_phase}
 use Rattle.jdwp_machine.specs.Meanings.{Meaning}
 use Rattle.jdwp_action.specs.Actions
 use Rattle.jdwp_action.specs.Actions.{Action, Carried, Command, Content, Raw, action_by, action_of, clear_action, other_action, set_action, slots_of, thread_action, thread_of, is_dispose}
-use Rattle.jdwp_action.specs.CommandReads.{content_read, read_by}
+use Rattle.jdwp_action.specs.CommandReads.{content_read}
 use Rattle.jdwp_machine.specs.declared.profile.Profile.{Profile}
-use Rattle.jdwp_debuggee.specs.Answering.{read_as}
+use Rattle.jdwp_debuggee.specs.Answering.{is_read, read_as, unread_as, with_bytes}
+use Rattle.jdwp_machine.specs.Profiles.{adds_raw}
+use Rattle.jdwp_layout.specs.CommandTable.{row_at}
+use Rattle.jdwp_layout.specs.Reads.{data_at}
+use Rattle.jdwp_action.specs.RowLayouts.{row_request}
 use Rattle.jdwp_debuggee.specs.Effects.{Effect, does, effect_by}
 use Rattle.jdwp_debuggee.specs.Effects as effects
 use Rattle.jdwp_debuggee.specs.Settings.{Settings}
@@ -106,9 +110,10 @@ content-of : (set number : ℕ) (read : Result (List DatumMeaning) DataFault) (c
 content-of set number (Ok content) c e = record { set = let f = e in cc; number = let f = e in cc }
 content-of set number (Err fault) c e = absurd cc
 
-read-of : (w : Widths) (set number : ℕ) (body : List ℕ) (b : Bool) (c : Command) → read_by w set number body b ≡ Ok c → IsOf set number c
-read-of w set number body false c e = absurd cc
-read-of w set number body true c e = content-of set number _ c e
+read-of : (set number : ℕ) (body : List ℕ) (found : Result (List DatumMeaning) DataFault) (b r : Bool) (c : Command) → (if b then content_read set number found else unread_as set number body r) ≡ Ok c → IsOf set number c
+read-of set number body found true r c e = content-of set number found c e
+read-of set number body found false true c e = record { set = let f = e in cc; number = let f = e in cc }
+read-of set number body found false false c e = absurd cc
 
 nonzero : (byte : ℕ) (body : List ℕ) → (length (byte ∷ body) == 0) ≡ false
 nonzero byte body = elim (cases_Bool (length (byte ∷ body) == 0)) [ inl e ↦ absurd (omega (arith, eqb-true (length (byte ∷ body)) 0 e)) | inr e ↦ e ]
@@ -122,7 +127,7 @@ bare-read p w (byte ∷ body) c e = absurd (let f = sym (extra-read p w byte bod
 
 dispose-read : (p : Profile) (w : Widths) (set number : ℕ) (body : List ℕ) (c : Command) → read_as p w set number body ≡ Ok c → is_dispose (action_of c) ≡ true → (set ≡ VIRTUAL_MACHINE) × (number ≡ DISPOSE.number) × (body ≡ [])
 dispose-read p w set number body c e d =
-    let of = read-of w set number body _ c e in
+    let of = read-of set number body (data_at w (row_request (row_at set number)) body) (is_read p (with_bytes set number body)) (adds_raw p set number) c e in
     let is = both _ _ (dispose-by (thread_of c) c d) in
     let at : set ≡ VIRTUAL_MACHINE = sym of.set ∙ eqb-true c.set VIRTUAL_MACHINE is.0 in
     let as-number : number ≡ DISPOSE.number = sym of.number ∙ eqb-true c.number DISPOSE.number is.1 in

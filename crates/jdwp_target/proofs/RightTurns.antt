@@ -1,5 +1,5 @@
 -- Turns of a target over any machine.
-use Rattle.std.proofs.Common.{◌≡◌, ◌∙◌, ℕ, ◌+◌, ◌≤◌, List, [], ◌∷◌, ◌++◌, ◌==◌, length, Bool, true, false, cond, not, ◌&&◌, ◌||◌, Some, None, Result, Ok, Err, pos, sym, ap, refl, subst, arith}
+use Rattle.std.proofs.Common.{◌≡◌, ◌∙◌, ℕ, ◌+◌, ◌≤◌, List, [], ◌∷◌, ◌++◌, ◌==◌, length, Bool, true, false, cond, if◌then◌else◌, not, ◌&&◌, ◌||◌, Some, None, Result, Ok, Err, pos, sym, ap, refl, subst, arith}
 use Rattle.std.proofs.lemmas.Bool.{leb-false}
 use Rattle.std.proofs.lemmas.List.{append-nil, length-append}
 use Rattle.byteorder.specs.Endian.{big_bytes}
@@ -30,9 +30,11 @@ use Rattle.jdwp_event.specs.Modifiers.{modifiers_of}
 use Rattle.jdwp_machine.specs.Meanings.{Meaning}
 use Rattle.jdwp_action.specs.Actions
 use Rattle.jdwp_action.specs.Actions.{Action, Command, Raw, action_of, is_dispose, is_exit}
-use Rattle.jdwp_action.specs.CommandReads.{content_read, read_by, with_content}
+use Rattle.jdwp_action.specs.CommandReads.{content_read, with_content}
 use Rattle.jdwp_machine.specs.declared.profile.Profile.{Profile}
-use Rattle.jdwp_debuggee.specs.Answering.{is_answered, read_as}
+use Rattle.jdwp_debuggee.specs.Answering.{is_answered, is_read, read_as, unread_as, with_bytes}
+use Rattle.jdwp_debuggee.proofs.OwnRefusals.{or-left, or-right, unread-raw}
+use Rattle.jdwp_machine.specs.Profiles.{adds_raw}
 use Rattle.jdwp_action.specs.RowLayouts.{row_request}
 use Rattle.jdwp_debuggee.specs.Askings.{Asking, action_meaning, asked_meaning, asking, asking_of, asks, is_short}
 use Rattle.jdwp_debuggee.specs.Debuggees.{Debuggee, at_moment, visiting}
@@ -141,7 +143,7 @@ ending m settings now c Actions.Ask = goes-on now _ _ refl refl refl refl refl
 
 -- ---- what a command reads as
 
--- a command that reads is implemented
+-- a command that reads is answered
 abbrev read_ok : Command → Result Command ErrorCode
 read_ok c = Ok c
 
@@ -165,13 +167,15 @@ was-read-content p set number (Ok content) c impl e =
     subst (λ (x : Command). WasRead p set number x) (command-same (with_content set number content) c e) (record { implemented = impl; set = refl; number = refl })
 was-read-content p set number (Err fault) c impl e = absurd cc
 
-was-read-by : (p : Profile) (w : Widths) (set number : ℕ) (bytes : List ℕ) (b : Bool) (c : Command) → is_answered p (record { set = set; number = number; carried = Raw [] }) ≡ b
-    → read_by w set number bytes b ≡ Ok c → WasRead p set number c
-was-read-by p w set number bytes true c impl e = was-read-content p set number (data_at w (row_request (row_at set number)) bytes) c impl e
-was-read-by p w set number bytes false c impl e = absurd cc
+was-read-by : (p : Profile) (set number : ℕ) (bytes : List ℕ) (found : Result (List DatumMeaning) DataFault) (b : Bool) (c : Command) → is_read p (with_bytes set number bytes) ≡ b
+    → (if b then content_read set number found else unread_as set number bytes (adds_raw p set number)) ≡ Ok c → WasRead p set number c
+was-read-by p set number bytes found true c is e = was-read-content p set number found c (or-left (is_read p (with_bytes set number bytes)) (adds_raw p set number) is) e
+was-read-by p set number bytes found false c is e =
+    let raw = unread-raw set number bytes c (adds_raw p set number) e in
+    subst (λ (x : Command). WasRead p set number x) raw.1 (record { implemented = or-right (is_read p (with_bytes set number bytes)) (adds_raw p set number) raw.0; set = refl; number = refl })
 
 pub was-read : (p : Profile) (w : Widths) (set number : ℕ) (bytes : List ℕ) (c : Command) → read_as p w set number bytes ≡ Ok c → WasRead p set number c
-was-read p w set number bytes c e = was-read-by p w set number bytes (is_answered p (record { set = set; number = number; carried = Raw bytes })) c refl e
+was-read p w set number bytes c e = was-read-by p set number bytes (data_at w (row_request (row_at set number)) bytes) (is_read p (with_bytes set number bytes)) c refl e
 
 -- ---- a command that was carried out or refused
 

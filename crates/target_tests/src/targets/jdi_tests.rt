@@ -41,7 +41,7 @@ const NARROW: &str = "{\"name\":\"narrow\",\"sizes\":[8,8,1,8,8],
 type Row = (&'static str, &'static str, &'static str);
 
 /// Of machine `MIRRORS`.
-static ROWS: [Row; 26] = [
+static ROWS: [Row; 29] = [
     // EventRequest.Set of CLASS_UNLOAD: alone, with a ClassMatch, and with a LocationOnly, a ThreadOnly and a ClassOnly, which it does not allow
     (
         "00000011 00000010 00 0f 01 09 00 00000000",
@@ -174,6 +174,22 @@ static ROWS: [Row; 26] = [
         "0000000b 00000044 80 0063",
         "0000000b 00000044 80 0067",
     ),
+    // VirtualMachine.ClassPaths, whose data nobody reads, and RedefineClasses
+    (
+        "0000000b 00000046 00 01 0d",
+        "0000000b 00000046 80 0063",
+        "00000018 00000046 80 0000 00000001 2f 00000000 00000000",
+    ),
+    (
+        "0000000d 00000047 00 01 0d ab01",
+        "0000000b 00000047 80 0063",
+        "00000018 00000047 80 0000 00000001 2f 00000000 00000000",
+    ),
+    (
+        "0000000f 00000048 00 01 12 00000000",
+        "0000000b 00000048 80 0063",
+        "0000000b 00000048 80 0063",
+    ),
     // ClassObjectReference.ReflectedType
     (
         "00000013 00000045 00 11 01 0000000000000032",
@@ -183,7 +199,7 @@ static ROWS: [Row; 26] = [
 ];
 
 /// Of machine `NARROW`: no id is left for the unnamed module, and a thread has no class.
-static NARROW_ROWS: [Row; 4] = [
+static NARROW_ROWS: [Row; 5] = [
     (
         "00000013 00000010 00 02 13 000000000000000a",
         "0000000c 00000010 80 0000 00",
@@ -203,6 +219,11 @@ static NARROW_ROWS: [Row; 4] = [
         "0000000c 00000013 00 09 01 ff",
         "0000000b 00000013 80 0014",
         "0000000b 00000013 80 0014",
+    ),
+    (
+        "0000000b 00000014 00 01 0d",
+        "0000000b 00000014 80 0063",
+        "00000018 00000014 80 0000 00000001 2f 00000000 00000000",
     ),
 ];
 

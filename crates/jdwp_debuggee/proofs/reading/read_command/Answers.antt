@@ -1,11 +1,9 @@
-use Rattle.std.proofs.Common.{◌≡◌, Some, None, Result, Err, sym, ap, rules}
-use Rattle.jdwp_wire.specs.declared.error_code.ErrorCode.{ErrorCode}
-use Rattle.jdwp_action.specs.Actions.{Command}
+use Rattle.std.proofs.Common.{◌≡◌, Some, None, Err, ap, rules}
 use Rattle.jdwp_layout.specs.Reads.{data_at}
 use Rattle.jdwp_layout.specs.Shapes.{shape}
-use Rattle.jdwp_debuggee.specs.Askings.{asking, asks}
+use Rattle.jdwp_debuggee.specs.Askings.{asking}
 use Rattle.jdwp_debuggee.specs.ReadParts.{answered_request}
-use Rattle.jdwp_debuggee.proofs.Read.{asks_content, asks_refused, unread_is}
+use Rattle.jdwp_debuggee.proofs.Read.{asks_content, asks_refused}
 use Rattle.jdwp_debuggee.proofs.Wanting.{if-err, read-encoded, read-whole}
 use Rattle.jdwp_debuggee.proofs.reading.read_command.Goals as goal
 
@@ -34,4 +32,4 @@ returns-in-Err-clause-reads c =
 pub returns-in_default-request_of-clause-value : goal.returns-in_default-request_of-clause-value
 returns-in_default-request_of-clause-value c =
     let none : answered_request c.args.profile c.args.set c.args.number ≡ None = search rules in
-    sym (ap (λ (r : Result Command ErrorCode). asks r) (unread_is c.args.profile c.args.sizes.now c.args.set c.args.number c.args.bytes.now none))
+    c.unread.ensures c.args.sizes.now c.args.bytes.now none

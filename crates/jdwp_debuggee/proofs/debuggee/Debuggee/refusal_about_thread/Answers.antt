@@ -8,7 +8,7 @@ use Rattle.jdwp_debuggee.proofs.debuggee.Debuggee.refusal_about_thread.Goals as 
 pub returns-in_err-layout-clause-value : goal.returns-in_err-layout-clause-value
 returns-in_err-layout-clause-value g c = λ command begins read long.
     let none : answered_request c.args.self.now.settings.profile c.args.set c.args.number ≡ None = search rules in
-    refuses-unread c.args.self.now.settings.profile c.args.sizes.now c.args.set c.args.number c.args.bytes.now command _ none read
+    refuses-unread c.args.self.now.settings.profile c.args.sizes.now c.args.set c.args.number c.args.bytes.now command _ begins none read
 
 pub returns-in_err-thread-clause-value : goal.returns-in_err-thread-clause-value
 returns-in_err-thread-clause-value g c = λ command begins read long.

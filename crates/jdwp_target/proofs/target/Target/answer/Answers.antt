@@ -1,8 +1,9 @@
-use Rattle.std.proofs.Common.{◌≡◌, ◌≤◌, ◌∙◌, length, rules, refl, false, arith, ap}
+use Rattle.std.proofs.Common.{◌≡◌, ◌≤◌, ◌+◌, ◌∙◌, length, rules, refl, subst, false, arith, ap}
 use Rattle.jdwp_wire.specs.Bytes.{IsBytes}
-use Rattle.jdwp_wire.specs.Limits.{least_packet_limit}
+use Rattle.jdwp_wire.specs.Limits.{Limits, least_packet_limit, most_packet_limit}
 use Rattle.jdwp_wire.specs.Streams.{Packet, Whole}
 use Rattle.jdwp_end.specs.Ends.{End, front_of}
+use Rattle.jdwp_debuggee.specs.Sending.{sent_bytes}
 use Rattle.jdwp_target.specs.Deeds.{defers}
 use Rattle.jdwp_target.specs.Insides.{target_of}
 use Rattle.jdwp_target.specs.Targets.{full_standing}
@@ -81,6 +82,39 @@ reply-requires-clause-room g c =
     let least : least_packet_limit ≤ t.end.limits.packet = rw (← c.self.view_is) at c.requires.least in
     let room = front-room t.end (Packet header body) used front in
     rw off (command-room m t.debuggee c.handle_front.new.debuggee header body t.end done w header.id read c.sizes-sizes.ensures c.self.invariant.limits least room)
+
+pub reply-requires-clause-small : goal.reply-requires-clause-small
+reply-requires-clause-small g c =
+    let m = g.M.Machine.meaning in
+    let t = c.self.inside in
+    let old = target_of t.debuggee t.deferral t.began.items t.phases.items (length t.steps.items) t.end in
+    let packet : HasAtOnce c.args.header c.args.used old = rw (← c.self.view_is) at c.requires.packet in
+    let header = c.args.header in
+    let body = packet.0 in
+    let used = c.args.used in
+    let front : front_of t.end ≡ Whole (Packet header body) used = packet.1 in
+    let done = c.in_ok-done.done in
+    let did : IsCarriedOut m t.debuggee c.handle_front.new.debuggee c.args.set c.args.number body done = c.in_ok-done.ensures.ok header body front in
+    let least : least_packet_limit ≤ t.end.limits.packet = rw (← c.self.view_is) at c.requires.least in
+    let most : t.end.limits.packet ≤ most_packet_limit = rw (← c.self.view_is) at c.requires.most in
+    let w = c.sizes-sizes.result in
+    let fits : 11 + length (sent_bytes w done.sent) ≤ t.end.limits.packet =
+    rw (c.sizes-sizes.ensures, c.self.invariant.limits) (did.becomes.fits (subst (λ (x : Limits). least_packet_limit ≤ x.packet) c.self.invariant.limits least)) in
+    omega (arith, fits, most)
+
+pub reply-requires-clause-bare : goal.reply-requires-clause-bare
+reply-requires-clause-bare g c =
+    let m = g.M.Machine.meaning in
+    let t = c.self.inside in
+    let old = target_of t.debuggee t.deferral t.began.items t.phases.items (length t.steps.items) t.end in
+    let packet : HasAtOnce c.args.header c.args.used old = rw (← c.self.view_is) at c.requires.packet in
+    let header = c.args.header in
+    let body = packet.0 in
+    let used = c.args.used in
+    let front : front_of t.end ≡ Whole (Packet header body) used = packet.1 in
+    let done = c.in_ok-done.done in
+    let did : IsCarriedOut m t.debuggee c.handle_front.new.debuggee c.args.set c.args.number body done = c.in_ok-done.ensures.ok header body front in
+    rw c.sizes-sizes.ensures did.becomes.bare
 
 pub take_off-requires : goal.take_off-requires
 take_off-requires g c =
