@@ -1,4 +1,4 @@
-//! Sessions of a client; clients at addresses; live sessions; sessions on ports of this machine, both ends in one process, which reach no
+//! Sessions of a client, and plans that it runs; clients at addresses; live sessions; sessions on ports of this machine, both ends in one process, which reach no
 //! other. Tests that call what anybody can call.
 //!
 //! Tests stand apart from the crates that they try, which are then proved once less.
@@ -12,5 +12,7 @@ mod asserts;
 mod clients;
 #[cfg(test)]
 mod live;
+#[cfg(test)]
+mod plans;
 #[cfg(test)]
 mod ports;

@@ -1,5 +1,5 @@
 //! Worked frames, values, the table of commands, event requests and suspend counts, and a type of one's own that packets carry; captures,
-//! recordings, and data that are read as texts. Tests that call what anybody can call.
+//! sessions judged as they go on, recordings, pictures, and data that are read as texts. Tests that call what anybody can call.
 //!
 //! Tests stand apart from the crates that they try, which are then proved once less.
 #![tactic(auto)]
@@ -10,7 +10,11 @@ mod asserts;
 mod captures;
 mod code_range;
 #[cfg(test)]
+mod judged;
+#[cfg(test)]
 mod packets;
+#[cfg(test)]
+mod pictures;
 #[cfg(test)]
 mod recordings;
 #[cfg(test)]

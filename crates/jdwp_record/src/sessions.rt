@@ -1,5 +1,5 @@
 //! Sessions at a port, one after the other.
-ghost use Rattle.std.specs.Prelude.{◌≡◌, IfOk};
+ghost use Rattle.std.specs.Prelude.{◌≡◌, IfErr, IfOk};
 
 use crate::faults::RecordFault;
 use crate::naming::file_name;
@@ -51,14 +51,16 @@ impl<'a> Recorder<'a> {
     ///
     /// # Errors
     /// `Port` where no connection is taken, at a cause that does not pass or behind too many in a row; `NoFile`, `Unwritten`, `Waiting` and
-    /// `NoMemory`. The connections of the session are closed then, and its capture has each byte that was handed on.
+    /// `NoMemory`. The connections of the session are closed then, and its capture has each byte that was handed on. The next call is for the
+    /// same session's number.
     pub fn record_next<R: Files + Clock + AllocGlobal, N: Net>(
         &mut self,
         rt: &R,
         net: &N,
         listener: &PortListener<N::Listener>,
     ) -> Result<RecordNotice, RecordFault>
-        ensures { IfOk result (λ notice. Records self.old notice self.new) }
+        ensures ok { IfOk result (λ notice. Records self.old notice self.new) }
+        ensures err { IfErr result (λ fault. self.new ≡ self.old) }
     {
         pause(rt, self.in_a_row);
         let happening = record_connection(rt, net, listener, self)?;

@@ -1,5 +1,5 @@
-//! Runs of both ends by plans, and plans, captures and faults that are told: tests of `jdwp_pair`, `jdwp_attach` and `jdwp_program`, which call
-//! what anybody can call.
+//! Runs of both ends by plans; plans, captures and faults that are told; what stands between two ends and writes down what they say: tests of
+//! `jdwp_pair`, `jdwp_attach`, `jdwp_program` and `jdwp_record`, which call what anybody can call.
 #![tactic(auto)]
 
 #[cfg(test)]
@@ -18,6 +18,8 @@ mod pair_tests;
 mod programs;
 #[cfg(test)]
 mod random_plans;
+#[cfg(test)]
+mod relays;
 #[cfg(test)]
 mod runs;
 #[cfg(test)]

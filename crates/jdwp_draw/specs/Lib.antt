@@ -1,0 +1,12 @@
+pub mod Escapes
+pub mod Messages
+pub mod Reading
+pub mod Hearing
+pub mod Told
+pub mod Sessions
+pub mod Pictures
+pub mod Following
+pub mod Columns
+pub mod Layout
+pub mod Elements
+pub mod Svg
