@@ -90,7 +90,7 @@ const CASES: &str = "<?xml version=\"1.0\" encoding=\"UTF-8\"?>
 const BEGUN: &str = "< Event.Composite 2 [(90, 0, #1)]\n";
 
 /// Runs of both ends, over memory and over a connection.
-static BOTH_ENDS: [Scene; 16] = [
+static BOTH_ENDS: [Scene; 17] = [
     Scene {
         files: &[
             ("pair_machine", Holds::Text(MACHINE)),
@@ -225,7 +225,7 @@ static BOTH_ENDS: [Scene; 16] = [
             ),
         ],
         words: "pair words_machine words_plan",
-        status: 4,
+        status: 5,
         prints: Some(BEGUN),
         tells: Tells::Exactly(
             "jdwp: nothing more can happen: line 4 of the plan waits for the next composite\n",
@@ -238,9 +238,20 @@ static BOTH_ENDS: [Scene; 16] = [
             ("words_plan", Holds::Text("plan 2\nevents 2\n")),
         ],
         words: "pair words_machine words_plan --turns 2",
-        status: 4,
+        status: 5,
         prints: Some(BEGUN),
-        tells: Tells::Exactly("jdwp: the turn limit of --turns is reached\n"),
+        tells: Tells::Exactly(
+            "jdwp: the turn limit of --turns is reached: line 2 of the plan waits for 2 composites of the session\n",
+        ),
+        ..SCENE
+    },
+    Scene {
+        files: &[
+            ("words_machine", Holds::Text(MACHINE)),
+            ("words_plan", Holds::Text("plan 2\nmay end\nevents 2\n")),
+        ],
+        words: "pair words_machine words_plan --turns 2",
+        prints: Some(BEGUN),
         ..SCENE
     },
     Scene {

@@ -154,14 +154,14 @@ fn other_words_are_refused(rt: HostRuntime) {
 }
 
 /// Words that are refused, with a space between them, and the texts that are told, with a `|`.
-static HELP: [(&str, &str); 24] = [
+static HELP: [(&str, &str); 26] = [
     (
         "",
-        "error: 'jdwp' requires a subcommand but one was not provided|show, check, capture, serve-script, attach|Usage: jdwp ",
+        "error: 'jdwp' requires a subcommand but one was not provided|show, check, capture, draw, serve-script, attach|Usage: jdwp ",
     ),
     (
         "--help",
-        "Ends of the Java Debug Wire Protocol|Usage: jdwp |\n  show |\n  check |\n  capture |\n  serve-script |\n  attach |--help",
+        "Ends of the Java Debug Wire Protocol|Usage: jdwp |\n  show |\n  check |\n  capture |\n  draw |\n  serve-script |\n  attach |--help",
     ),
     (
         "serve-script --help",
@@ -180,6 +180,14 @@ static HELP: [(&str, &str); 24] = [
     (
         "capture --help",
         "Makes the capture|Usage: jdwp capture |<FILE>|--target-port <N>|--stream <N>|[default: 1]",
+    ),
+    (
+        "draw --help",
+        "Draws a capture|Usage: jdwp draw |<FILE>|--target-port <N>|--from <N>|--count <N>|[default: 200]",
+    ),
+    (
+        "draw f --from 0",
+        "error: invalid value '0' for '--from <N>': 0 is not in 1..=2147483647",
     ),
     (
         "capture f --stream 0",

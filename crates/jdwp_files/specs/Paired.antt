@@ -15,7 +15,7 @@ use Rattle.jdwp_plan_run.specs.declared.ended.PlanVerdict.TheVariants as verdict
 use Rattle.jdwp_plan_run.specs.Endings.{verdict_of}
 use Rattle.jdwp_program.specs.Awaiting.{awaited_at_written}
 use Rattle.jdwp_program.specs.declared.outcome.Outcome.{Outcome}
-use Rattle.jdwp_program.specs.declared.outcome.Outcome.TheVariants.{Session, Standstill}
+use Rattle.jdwp_program.specs.declared.outcome.Outcome.TheVariants.{Session, Unreached, UsedUp}
 use Rattle.jdwp_program.specs.declared.words.Pair.{Pair}
 use Rattle.jdwp_script_machine.specs.Machines.{read_machine_as}
 use Rattle.jdwp_script_machine.specs.ScriptMeaning.{script_meaning}
@@ -29,24 +29,28 @@ abbrev pub line_of : List PlanLine → PlanEnded → ℕ
 line_of plan Done = length plan + 1
 line_of plan (At number may_end why) = number
 
--- that nothing more can happen, which line waits, and for what
-abbrev pub standstill : List PlanLine → PlanEnded → Outcome
-standstill plan ended = Standstill (line_of plan ended) (awaited_at_written plan (line_of plan ended))
+-- that nothing more can happen, which line was not reached, and what it waits for
+abbrev pub unreached : List PlanLine → PlanEnded → Outcome
+unreached plan ended = Unreached (line_of plan ended) (awaited_at_written plan (line_of plan ended))
 
--- what is told of a run that came to this where nothing more can happen: that, unless the session might end before the plan
-abbrev pub told_where_still : PlanVerdict → Outcome → Outcome → Outcome
-told_where_still verdict.Met told still = told
-told_where_still verdict.Refused told still = still
-told_where_still verdict.NotPrinted told still = still
-told_where_still verdict.NoMemory told still = still
-told_where_still verdict.TooMuch told still = still
-told_where_still verdict.NotMet told still = still
+-- that all rounds were used, and the same
+abbrev pub used_up : List PlanLine → PlanEnded → Outcome
+used_up plan ended = UsedUp (line_of plan ended) (awaited_at_written plan (line_of plan ended))
+
+-- what is told where the target goes on no more: of a run that was not carried out, that it waits; of one that ended for another reason, that
+abbrev pub told_where_waiting : PlanVerdict → Outcome → Outcome → Outcome
+told_where_waiting verdict.Met told waits = told
+told_where_waiting verdict.Refused told waits = told
+told_where_waiting verdict.NotPrinted told waits = told
+told_where_waiting verdict.NoMemory told waits = told
+told_where_waiting verdict.TooMuch told waits = told
+told_where_waiting verdict.NotMet told waits = waits
 
 -- What is told of a run that ended so and of which else this is told, by how the target stands.
 abbrev pub IsToldOfPair : Standing → List PlanLine → PlanEnded → Outcome → Outcome → Type 0
 IsToldOfPair Goes plan ended told outcome = outcome ≡ told
-IsToldOfPair Still plan ended told outcome = outcome ≡ told_where_still (verdict_of ended) told (standstill plan ended)
-IsToldOfPair AllUsed plan ended told outcome = outcome ≡ Session session.TurnLimit
+IsToldOfPair Still plan ended told outcome = outcome ≡ told_where_waiting (verdict_of ended) told (unreached plan ended)
+IsToldOfPair AllUsed plan ended told outcome = outcome ≡ told_where_waiting (verdict_of ended) told (used_up plan ended)
 IsToldOfPair (Refused number) plan ended told outcome = outcome ≡ Session (session.Refused number)
 IsToldOfPair NoMemory plan ended told outcome = outcome ≡ Session session.NoMemory
 

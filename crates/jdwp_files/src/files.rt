@@ -50,7 +50,7 @@ pub fn show_file<'a, R: Files + AllocGlobal, O: Write, E: Write>(
 ) -> Result<Told, Fault<'a>>
     ensures { LeavesCaptureTold result (O.contents out.old) (O.contents out.new) }
 {
-    let bytes = read(rt, words.file)?;
+    let bytes = read_capture(rt, words.file)?;
     if is_recording(&bytes) {
         let found = session_in(rt.alloc(), words, &bytes, err)?;
         return show_recorded(rt.alloc(), words.file, &found, out);
@@ -98,7 +98,7 @@ pub fn check_file<'a, R: Files + AllocGlobal, O: Write, E: Write>(
 ) -> Result<Told, Fault<'a>>
     ensures { LeavesCaptureTold result (O.contents out.old) (O.contents out.new) }
 {
-    let bytes = read(rt, words.file)?;
+    let bytes = read_capture(rt, words.file)?;
     if is_recording(&bytes) {
         let found = session_in(rt.alloc(), words, &bytes, err)?;
         return check_recorded(rt.alloc(), words.file, &found, out);
@@ -146,7 +146,7 @@ pub fn capture_file<'a, R: Files + AllocGlobal, O: Write, E: Write>(
 ) -> Result<Told, Fault<'a>>
     ensures { LeavesCaptureTold result (O.contents out.old) (O.contents out.new) }
 {
-    let bytes = read(rt, words.file)?;
+    let bytes = read_capture(rt, words.file)?;
     let found = session_in(rt.alloc(), words, &bytes, err)?;
     print_recorded(words.file, &found, out)
 }
@@ -167,7 +167,7 @@ fn print_recorded<'a, O: Write>(
 }
 
 /// The capture of the session that the words ask for in a recording of these bytes. Where there are more, it is told how many.
-fn session_in<'a, E: Write>(
+pub(crate) fn session_in<'a, E: Write>(
     alloc: Global,
     words: &CaptureFile<'a>,
     bytes: &[u8],
@@ -183,7 +183,7 @@ fn session_in<'a, E: Write>(
 }
 
 /// What was told of a capture that a recording gave; behind it the recording's fault, where it has one and all was read.
-fn faulty_where<'a>(
+pub(crate) fn faulty_where<'a>(
     file: &'a str,
     told: Told,
     fault: Option<RecordingFault>,
@@ -397,6 +397,15 @@ pub(crate) fn read<'a, R: Files + AllocGlobal>(
     path: &'a str,
 ) -> Result<Vec<u8>, Fault<'a>> {
     fs::read(rt, path).map_err(|error| Fault::of_file(path, error))
+}
+
+/// The bytes of the file of a capture or a recording; `-` is standard input.
+pub(crate) fn read_capture<'a, R: Files + AllocGlobal>(
+    rt: &R,
+    path: &'a str,
+) -> Result<Vec<u8>, Fault<'a>> {
+    let name = if path == "-" { "/dev/stdin" } else { path };
+    fs::read(rt, name).map_err(|error| Fault::of_file(path, error))
 }
 
 /// A file to read from, which is not a folder.

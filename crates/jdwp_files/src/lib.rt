@@ -1,6 +1,7 @@
 //! The program's commands on files and at ports, over any runtime and two writers.
 #![tactic(auto)]
 
+mod drawing;
 mod files;
 mod memory;
 mod paired;

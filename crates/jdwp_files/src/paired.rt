@@ -66,21 +66,26 @@ fn pair_lines<'a, R: Files + AllocGlobal, M: Machine + Drop, O: Write, E: Write>
     run.pipe.session();
     let standing = run.pipe.standing();
     let (_, output) = printed.into_parts();
-    report_where(alloc, standing, &run.ended, err);
+    let verdict = run.ended.verdict();
+    if !is_told_by(standing, verdict) {
+        report_plan(alloc, &run.ended, err);
+    }
     let are_written = write_cases(rt, words.plan, words.junit, plan, &run.ended, err);
-    let told = outcome_of(run.ended.verdict(), are_written, limits, output.failure());
+    let told = outcome_of(verdict, are_written, limits, output.failure());
     Ok(with_standing(standing, plan, &run.ended, told))
 }
 
-/// Tells why a plan was not carried out, unless how the target stands tells it.
-fn report_where<E: Write>(alloc: Global, standing: Standing, ended: &PlanEnded, err: &mut E) {
-    if standing == Standing::Goes {
-        report_plan(alloc, ended, err);
+/// Whether how the target stands tells why a plan came to this.
+fn is_told_by(standing: Standing, verdict: PlanVerdict) -> bool {
+    match standing {
+        Standing::Goes => false,
+        Standing::Still | Standing::AllUsed => verdict == PlanVerdict::NotMet,
+        Standing::Refused(_) | Standing::NoMemory => true,
     }
 }
 
-/// What is told of a run that ended so and of which else this is told, where the target stands so: that nothing more can happen, that all
-/// rounds were used, or why the target ended the session.
+/// What is told of a run that ended so and of which else this is told, where the target stands so: that nothing more can happen, or all rounds
+/// were used, and which line waits; or why the target ended the session.
 fn with_standing<'a>(
     standing: Standing,
     plan: &[PlanLine],
@@ -91,26 +96,45 @@ fn with_standing<'a>(
 {
     match standing {
         Standing::Goes => told,
-        Standing::Still => match ended.verdict() {
-            PlanVerdict::Met => told,
-            PlanVerdict::Refused
-            | PlanVerdict::NotPrinted
-            | PlanVerdict::NoMemory
-            | PlanVerdict::TooMuch
-            | PlanVerdict::NotMet => standstill(plan, ended),
-        },
-        Standing::AllUsed => Outcome::Session(Ended::TurnLimit),
+        Standing::Still => told_where_waiting(ended.verdict(), told, unreached(plan, ended)),
+        Standing::AllUsed => told_where_waiting(ended.verdict(), told, used_up(plan, ended)),
         Standing::Refused(number) => Outcome::Session(Ended::Refused(number)),
         Standing::NoMemory => Outcome::Session(Ended::NoMemory),
     }
 }
 
-/// That nothing more can happen, at the line at which a run ended so.
-fn standstill<'a>(plan: &[PlanLine], ended: &PlanEnded) -> Outcome<'a>
-    ensures { result ≡ spec.standstill plan.now ended.now }
+/// What is told where the target goes on no more: of a run that was not carried out, that it waits; of one that ended for another reason, that.
+fn told_where_waiting<'a>(
+    verdict: PlanVerdict,
+    told: Outcome<'a>,
+    waits: Outcome<'a>,
+) -> Outcome<'a>
+    ensures { result ≡ spec.told_where_waiting verdict told.entry waits.entry }
+{
+    match verdict {
+        PlanVerdict::NotMet => waits,
+        PlanVerdict::Met
+        | PlanVerdict::Refused
+        | PlanVerdict::NotPrinted
+        | PlanVerdict::NoMemory
+        | PlanVerdict::TooMuch => told,
+    }
+}
+
+/// That all rounds were used, and the line at which a run ended so was not reached.
+fn used_up<'a>(plan: &[PlanLine], ended: &PlanEnded) -> Outcome<'a>
+    ensures { result ≡ spec.used_up plan.now ended.now }
 {
     let line = line_of(plan, ended);
-    Outcome::Standstill(line, Awaited::at_written(plan, line))
+    Outcome::UsedUp(line, Awaited::at_written(plan, line))
+}
+
+/// That nothing more can happen, and the line at which a run ended so was not reached.
+fn unreached<'a>(plan: &[PlanLine], ended: &PlanEnded) -> Outcome<'a>
+    ensures { result ≡ spec.unreached plan.now ended.now }
+{
+    let line = line_of(plan, ended);
+    Outcome::Unreached(line, Awaited::at_written(plan, line))
 }
 
 /// The line at which a run ended so, counted from 1, or one more than there are.

@@ -3,6 +3,7 @@ ghost use Rattle.std.specs.Prelude.{◌≡◌, ◌≤◌, false};
 ghost use Rattle.jdwp_words.specs.Commands.{runs_plan};
 ghost use Rattle.jdwp_program.specs.Outputs.{Leaves, LeavesCaptureTold, LeavesOutcome};
 
+use crate::drawing::draw_file;
 use crate::files::{attach_files, capture_file, check_file, serve_files, show_file};
 use crate::memory::keep_freed_memory;
 use crate::recording::record_sessions;
@@ -21,8 +22,8 @@ use std::rt::{Clock, Files};
 /// 0: done, by Dispose, the machine's death or a plan that is finished, a session that was recorded, a capture without a fault, or the version. 1: words that are refused or ask for
 /// help, a file that can't be opened or made or is not UTF-8, a script, a plan, a line of it or bytes that are refused, or a capture with
 /// a fault. 2: a file ended before its session did, or it, the output or the file of test cases can't be read or written. 3: no memory. 4: all
-/// rounds or turns were used, or nothing more can happen. 5: something else was told than a plan in words expects, or the session was over before its
-/// last line. Each of 1 to 5 is told on `err` behind `jdwp: `, but for the fault of a capture, which `out` tells, and where who reads `out`
+/// rounds or turns were used, or nothing more can happen, but by a plan in words. 5: something else was told than a plan in words expects, or its last
+/// line was not reached. Each of 1 to 5 is told on `err` behind `jdwp: `, but for the fault of a capture, which `out` tells, and where who reads `out`
 /// went away.
 pub fn run<R, S, O, E>(rt: &R, words: &[S], out: &mut O, err: &mut E) -> u8
 where
@@ -64,6 +65,7 @@ where
         Words::Show(words) => Ok(Outcome::Capture(show_file(rt, &words, out, err)?)),
         Words::Check(words) => Ok(Outcome::Capture(check_file(rt, &words, out, err)?)),
         Words::Capture(words) => Ok(Outcome::Capture(capture_file(rt, &words, out, err)?)),
+        Words::Draw(words) => Ok(Outcome::Capture(draw_file(rt, &words, out, err)?)),
         Words::Record(words) => record_sessions(rt, &words, out, err),
         Words::Version => Ok(Outcome::Version(version(out)?)),
     }

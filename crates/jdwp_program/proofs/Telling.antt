@@ -3,6 +3,7 @@ use Rattle.std.proofs.Common.{◌≡◌, ℕ, List, [], append-nil, Option, Some
 use Rattle.jdwp_show.specs.declared.capture_fault.CaptureFault.{CaptureFault}
 use Rattle.jdwp_show.specs.Sessions.{first_fault}
 use Rattle.jdwp_program.specs.Captures.{Tells, shown_text, verdict_text}
+use Rattle.jdwp_program.specs.Drawings.{Draws, IsDrawing}
 use Rattle.jdwp_program.specs.Listening.{TellsListening, listening_line}
 use Rattle.jdwp_program.specs.Outputs.{IsTextOf, LeavesListened, LeavesListening, LeavesText, LeavesTold}
 use Rattle.jdwp_program.specs.Version.{version_line}
@@ -30,7 +31,16 @@ leaves_shown capture old new result tells = leaves_capture capture (shown_text c
 -- of the verdict on a capture
 pub leaves_judged : (capture : List ℕ) (old new : Option (List ℕ)) (result : Result Told TellFault)
     → Tells (first_fault capture) (verdict_text (first_fault capture)) old new result → LeavesTold result old new
-leaves_judged capture old new result tells = leaves_capture capture (verdict_text (first_fault capture)) (first_fault capture) old new result refl (inr refl) tells
+leaves_judged capture old new result tells = leaves_capture capture (verdict_text (first_fault capture)) (first_fault capture) old new result refl (inr (inl refl)) tells
+
+-- of a drawing of a capture
+pub leaves_drawn : (capture : List ℕ) (from count : ℕ) (text : List ℕ) (old new : Option (List ℕ)) (result : Result Told TellFault) → IsDrawing capture from count text → Tells (first_fault capture) text old new result → LeavesTold result old new
+leaves_drawn capture from count text old new result is tells = leaves_capture capture text (first_fault capture) old new result refl (inr (inr (from, count, is))) tells
+
+pub draws : (capture : List ℕ) (from count : ℕ) (text : List ℕ) (old new : Option (List ℕ)) (result : Result Told TellFault) → IsDrawing capture from count text → Tells (first_fault capture) text old new result → Draws capture from count old new result
+draws capture from count text old new (Ok told) is tells = (text, is, tells)
+draws capture from count text old new (Err (Output error)) is tells = (text, is, tells)
+draws capture from count text old new (Err NoMemory) is tells = tells
 
 -- of the program's version
 pub leaves_version : (old new : Option (List ℕ)) (result : Result Told TellFault) → Tells None version_line old new result → LeavesTold result old new

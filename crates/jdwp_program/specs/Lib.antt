@@ -1,6 +1,7 @@
 pub mod Attaching
 pub mod Awaiting
 pub mod Captures
+pub mod Drawings
 pub mod Files
 pub mod Listening
 pub mod Losses

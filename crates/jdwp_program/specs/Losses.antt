@@ -18,7 +18,7 @@ use Rattle.jdwp_program.specs.declared.losing.Side.{Side}
 use Rattle.jdwp_program.specs.declared.losing.Loss.{Loss}
 use Rattle.jdwp_program.specs.declared.losing.Loss.TheVariants.{FileEnded, Unread, Unwritten, PortEnded, Port, Silent, Output, ReaderGone}
 use Rattle.jdwp_program.specs.declared.outcome.Outcome.{Outcome}
-use Rattle.jdwp_program.specs.declared.outcome.Outcome.TheVariants.{Session, Lost, RefusedLine, Standstill, Planned, Capture, Version}
+use Rattle.jdwp_program.specs.declared.outcome.Outcome.TheVariants.{Session, Lost, RefusedLine, Standstill, Unreached, UsedUp, Planned, Capture, Version}
 
 -- What is told of a session that ended so, which read from the first file, wrote to the second and printed on an output that failed so, if
 -- it did. A read that failed without an error found the file's end. Of a write that failed the file's error is told, and that of the output
@@ -35,6 +35,8 @@ IsEndOf ended from to output (Lost ReaderGone) = (ended ≡ LostByWrite) × (to.
 IsEndOf ended from to output (Session told) = (told ≡ ended) × (ended ≢ LostByRead) × (ended ≡ LostByWrite → (to.failure ≡ None) × (output ≡ None))
 IsEndOf ended from to output (RefusedLine line number most) = ⊥
 IsEndOf ended from to output (Standstill line awaited) = ⊥
+IsEndOf ended from to output (Unreached line awaited) = ⊥
+IsEndOf ended from to output (UsedUp line awaited) = ⊥
 IsEndOf ended from to output (Planned verdict) = ⊥
 IsEndOf ended from to output (Capture told) = ⊥
 IsEndOf ended from to output (Version told) = ⊥

@@ -9,15 +9,16 @@ use Rattle.jdwp_program.specs.declared.captures.TellFault.{TellFault}
 use Rattle.jdwp_program.specs.declared.fault.Fault.{Fault}
 use Rattle.jdwp_program.specs.declared.outcome.Outcome.{Outcome}
 use Rattle.jdwp_program.specs.Captures.{shown_text, verdict_text}
+use Rattle.jdwp_program.specs.Drawings.{IsDrawing}
 use Rattle.jdwp_program.specs.Files.{fault_of_telling}
 use Rattle.jdwp_program.specs.Listening.{listening_line}
 use Rattle.jdwp_program.specs.Printing.{AppendsPart}
 use Rattle.jdwp_program.specs.Version.{version_line}
 use Rattle.jdwp_program.specs.Statuses.{status_of_told, status_of_fault, status_of_outcome}
 
--- what is printed of a capture: it in words, or the verdict
+-- what is printed of a capture: it in words, or the verdict, or a drawing of it
 abbrev pub IsTextOf : List ℕ → List ℕ → Type 0
-IsTextOf capture text = (text ≡ shown_text capture) ⊎ (text ≡ verdict_text (first_fault capture))
+IsTextOf capture text = (text ≡ shown_text capture) ⊎ ((text ≡ verdict_text (first_fault capture)) ⊎ ((from : ℕ) × (count : ℕ) × IsDrawing capture from count text))
 
 -- the status of a capture that was told whole
 abbrev pub status_of_capture : Option (ℕ × CaptureFault) → ℕ

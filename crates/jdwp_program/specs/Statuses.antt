@@ -10,7 +10,7 @@ use Rattle.jdwp_program.specs.declared.captures.Told.TheVariants.{Faultless, Fau
 use Rattle.jdwp_program.specs.declared.fault.Fault.{Fault}
 use Rattle.jdwp_program.specs.declared.fault.Fault.TheVariants.{Words, NotText, File, Script, Plan, Written, Recording, Recorder, Port, Output, Closed, NoMemory}
 use Rattle.jdwp_program.specs.declared.outcome.Outcome.{Outcome}
-use Rattle.jdwp_program.specs.declared.outcome.Outcome.TheVariants.{Session, Lost, RefusedLine, Standstill, Planned, Capture, Version}
+use Rattle.jdwp_program.specs.declared.outcome.Outcome.TheVariants.{Session, Lost, RefusedLine, Standstill, Unreached, UsedUp, Planned, Capture, Version}
 
 -- of a session, by how it ended
 abbrev pub status_of_end : Ended → ℕ
@@ -33,6 +33,8 @@ status_of_outcome (Session e) = status_of_end e
 status_of_outcome (Lost loss) = 2
 status_of_outcome (RefusedLine line number most) = 1
 status_of_outcome (Standstill line awaited) = 4
+status_of_outcome (Unreached line awaited) = 5
+status_of_outcome (UsedUp line awaited) = 5
 status_of_outcome (Planned verdict) = status_of verdict
 status_of_outcome (Capture told) = status_of_told told
 status_of_outcome (Version told) = status_of_told told

@@ -2,7 +2,7 @@
 use Rattle.std.specs.Prelude.{◌≢◌, ℕ, List, Option, Some, None, ⊤}
 use Rattle.std.specs.Borrow.{Bor}
 use Rattle.jdwp_program.specs.declared.words.Words.{Words}
-use Rattle.jdwp_program.specs.declared.words.Words.TheVariants.{ServeScript, Attach, Pair, Show, Check, Capture, Record, Version}
+use Rattle.jdwp_program.specs.declared.words.Words.TheVariants.{ServeScript, Attach, Pair, Show, Check, Capture, Draw, Record, Version}
 use Rattle.jdwp_program.specs.declared.words.Pair.{Pair as PairWords}
 use Rattle.jdwp_program.specs.declared.words.Peer.{Peer}
 use Rattle.jdwp_program.specs.declared.words.Peer.TheVariants as peer
@@ -33,6 +33,7 @@ KeepsFiles (Attach words) = KeepsFile words.peer words.plan.now × KeepsFromCase
 KeepsFiles (Pair words) = KeepsPair words
 KeepsFiles (Show file) = ⊤
 KeepsFiles (Check file) = ⊤
+KeepsFiles (Draw drawing) = ⊤
 KeepsFiles (Capture file) = ⊤
 KeepsFiles (Record words) = ⊤
 KeepsFiles Version = ⊤

@@ -6,6 +6,7 @@
 mod attaching;
 mod awaiting;
 mod captures;
+mod drawing;
 mod fault;
 mod listening;
 mod losing;
@@ -20,6 +21,7 @@ mod words;
 pub use attaching::{attach_plan, attach_session};
 pub use awaiting::Awaited;
 pub use captures::{TellFault, Told, check_capture, print_capture, show_capture};
+pub use drawing::draw_capture;
 pub use fault::{Fault, FileCause, is_recording, text_of};
 pub use jdwp_port::Watched;
 pub use listening::tell_listening;
@@ -30,5 +32,6 @@ pub use recordings::{Recorded, report_connections, session_of};
 pub use values::{decimal, is_all, limits, order, profile};
 pub use version::{VERSION, tell_version};
 pub use words::{
-    Attach, Between, CaptureFile, Emptied, Pair, Peer, Record, ServeScript, SessionFiles, Words,
+    Attach, Between, CaptureFile, Draw, Emptied, Pair, Peer, Record, ServeScript, SessionFiles,
+    Words,
 };

@@ -30,6 +30,10 @@ pub enum Outcome<'a> {
     /// Nothing more can happen: the line of a plan waits, counted from 1, one more than there are lines where all were carried out; and for
     /// what.
     Standstill(usize, Awaited),
+    /// The same of a plan in words, which did not come to its end.
+    Unreached(usize, Awaited),
+    /// All rounds were used, and a plan in words did not come to its end: as before, which line waits, and for what.
+    UsedUp(usize, Awaited),
     /// A plan in words came to this, and why is told.
     Planned(PlanVerdict),
     /// This was told of a capture.
@@ -164,6 +168,9 @@ impl<'a> Outcome<'a> {
     }
 }
 
+/// What is told where all rounds or turns were used.
+const TURN_LIMIT: &str = "the turn limit of --turns is reached";
+
 /// Whether a read failed so since it waited for as long as it may.
 fn is_late(error: io::Error) -> bool
     ensures { result ≡ is_late error }
@@ -206,6 +213,14 @@ pub fn report_outcome<E: Write>(outcome: Outcome<'_>, err: &mut E) -> u8
         Outcome::Standstill(line, awaited) => {
             report_standstill(line, awaited, err);
             4
+        }
+        Outcome::Unreached(line, awaited) => {
+            report_standstill(line, awaited, err);
+            5
+        }
+        Outcome::UsedUp(line, awaited) => {
+            report_waiting(TURN_LIMIT, line, awaited, err);
+            5
         }
         Outcome::Planned(verdict) => verdict.status(),
         Outcome::Capture(told) | Outcome::Version(told) => status_of_told(told),
@@ -259,7 +274,7 @@ fn report_end<E: Write>(ended: Ended, err: &mut E) {
         Ended::LostByRead => writeln!(err, "jdwp: the connection is lost at a read"),
         Ended::LostByWrite => writeln!(err, "jdwp: the connection is lost at a write"),
         Ended::NoMemory => writeln!(err, "jdwp: no memory"),
-        Ended::TurnLimit => writeln!(err, "jdwp: the turn limit of --turns is reached"),
+        Ended::TurnLimit => writeln!(err, "jdwp: {TURN_LIMIT}"),
     };
 }
 
@@ -285,14 +300,19 @@ fn report_line<E: Write>(line: usize, number: u16, most: u32, err: &mut E) {
 
 /// Tells that nothing more can happen, and what waits for what. What standard error doesn't take is lost.
 fn report_standstill<E: Write>(line: usize, awaited: Awaited, err: &mut E) {
+    report_waiting("nothing more can happen", line, awaited, err);
+}
+
+/// Tells why a plan goes on no more, and what waits for what. What standard error doesn't take is lost.
+fn report_waiting<E: Write>(why: &str, line: usize, awaited: Awaited, err: &mut E) {
     let _ = match awaited {
         Awaited::LastAnswers => writeln!(
             err,
-            "jdwp: nothing more can happen: behind its last line the plan waits for {awaited}"
+            "jdwp: {why}: behind its last line the plan waits for {awaited}"
         ),
         awaited => writeln!(
             err,
-            "jdwp: nothing more can happen: line {line} of the plan waits for {awaited}"
+            "jdwp: {why}: line {line} of the plan waits for {awaited}"
         ),
     };
 }

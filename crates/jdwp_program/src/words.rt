@@ -21,13 +21,15 @@ pub enum Words<'a> {
     Check(CaptureFile<'a>),
     /// `capture FILE`: the capture of a session in a recording of the network.
     Capture(CaptureFile<'a>),
+    /// `draw FILE`: a capture is drawn as a picture.
+    Draw(Draw<'a>),
     /// `record`: what a debugger and a target send is handed on and written down.
     Record(Record<'a>),
     /// `--version`: the program's name and version are told.
     Version,
 }
 
-/// `FILE [--target-port N] [--stream N]`, behind `show`, `check` or `capture`.
+/// `FILE [--target-port N] [--stream N]`, behind `show`, `check`, `capture` or `draw`.
 #[derive(Clone, Copy, Debug, PartialEq, Eq)]
 pub struct CaptureFile<'a> {
     /// The file of a capture, or of a recording of the network.
@@ -36,6 +38,17 @@ pub struct CaptureFile<'a> {
     pub target_port: Option<u16>,
     /// Which connection of a recording it is, from 1, by their first packets.
     pub stream: u32,
+}
+
+/// `draw FILE [--target-port N] [--stream N] [--from N] [--count N]`.
+#[derive(Clone, Copy, Debug, PartialEq, Eq)]
+pub struct Draw<'a> {
+    /// The file, and which session of a recording it is.
+    pub capture: CaptureFile<'a>,
+    /// The number of the first message that is drawn, from 1.
+    pub from: u32,
+    /// How many messages are drawn at most.
+    pub count: u32,
 }
 
 /// Where the other end of a session is.
@@ -165,6 +178,7 @@ impl Words<'_> {
             Words::Show(_)
             | Words::Check(_)
             | Words::Capture(_)
+            | Words::Draw(_)
             | Words::Record(_)
             | Words::Version => None,
         }

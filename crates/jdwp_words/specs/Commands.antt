@@ -2,7 +2,7 @@
 use Rattle.std.specs.Prelude.{◌≡◌, ℕ, List, [], ◌∷◌, Bool, true, false, ◌||◌, ⊤, codes}
 use Rattle.std.specs.Str.{bytes_eq}
 use Rattle.jdwp_program.specs.declared.words.Words.{Words}
-use Rattle.jdwp_program.specs.declared.words.Words.TheVariants.{ServeScript, Attach, Pair, Show, Check, Capture, Record, Version}
+use Rattle.jdwp_program.specs.declared.words.Words.TheVariants.{ServeScript, Attach, Pair, Show, Check, Capture, Draw, Record, Version}
 
 -- whether the word behind the program's name is that of a command that runs a plan: `attach` or `pair`
 abbrev pub runs_plan : {S : Type 0} → (S → List ℕ) → List S → Bool
@@ -17,6 +17,7 @@ RunsPlanOnlyWhere named (Pair words) = named ≡ true
 RunsPlanOnlyWhere named (ServeScript words) = ⊤
 RunsPlanOnlyWhere named (Show file) = ⊤
 RunsPlanOnlyWhere named (Check file) = ⊤
+RunsPlanOnlyWhere named (Draw drawing) = ⊤
 RunsPlanOnlyWhere named (Capture file) = ⊤
 RunsPlanOnlyWhere named (Record words) = ⊤
 RunsPlanOnlyWhere named Version = ⊤

@@ -1,5 +1,6 @@
 //! Arguments of the command line.
 use clap::{Arg, ArgAction, value_parser};
+use jdwp_wire::number::GREATEST_INT;
 use std::alloc::Global;
 
 /// The port at which a recorder awaits debuggers.
@@ -36,6 +37,45 @@ pub(crate) fn show<'a>(alloc: Global) -> Arg<'a> {
 pub(crate) fn once<'a>(alloc: Global) -> Arg<'a> {
     let help = "Ends behind the first session that was recorded";
     flag(alloc, "once", help)
+}
+
+/// The file of a capture.
+pub(crate) fn capture<'a>(alloc: Global, help: &'a str) -> Arg<'a> {
+    file(alloc, "file", "FILE", help)
+}
+
+/// The target's port in a recording.
+pub(crate) fn target_port<'a>(alloc: Global) -> Arg<'a> {
+    let help =
+        "The target's port in a recording; without it the handshake or the beginning of the connection tells which side is the target";
+    option(alloc, "target-port", "N", help).value_parser(value_parser!(u32).range(1..=65535))
+}
+
+/// Which connection of a recording it is.
+pub(crate) fn stream<'a>(alloc: Global) -> Arg<'a> {
+    option(
+        alloc,
+        "stream",
+        "N",
+        "Which connection of a recording, from 1",
+    )
+    .value_parser(value_parser!(u32).range(1..=i64::from(GREATEST_INT)))
+    .default_value("1")
+}
+
+/// The number of the first message that is drawn.
+pub(crate) fn first_message<'a>(alloc: Global) -> Arg<'a> {
+    let help = "The number of the first message that is drawn, from 1";
+    option(alloc, "from", "N", help)
+        .value_parser(value_parser!(u32).range(1..=i64::from(GREATEST_INT)))
+        .default_value("1")
+}
+
+/// How many messages are drawn at most.
+pub(crate) fn message_count<'a>(alloc: Global) -> Arg<'a> {
+    option(alloc, "count", "N", "How many messages are drawn at most")
+        .value_parser(value_parser!(u32))
+        .default_value("200")
 }
 
 /// A file by its place among the words.

@@ -4,7 +4,10 @@ ghost use Rattle.jdwp_words.specs.Commands as commands;
 ghost use Rattle.jdwp_words.specs.Commands.{RunsPlanOnlyWhere};
 ghost use Rattle.jdwp_program.specs.Words.{KeepsFiles};
 
-use crate::arguments::{file, flag, listen, once, option, recorded_to, show, target};
+use crate::arguments::{
+    capture, file, first_message, flag, listen, message_count, once, option, recorded_to, show,
+    stream, target, target_port,
+};
 use crate::refusing::{bad_words, refused};
 use clap::error::ErrorKind;
 use clap::{Arg, ArgMatches, Command, value_parser};
@@ -12,8 +15,8 @@ use jdwp_debuggee::Settings;
 use jdwp_debugger::Order;
 use jdwp_machine::Profile;
 use jdwp_program::{
-    Attach, Between, CaptureFile, Emptied, Fault, Pair, Peer, Record, ServeScript, SessionFiles,
-    VERSION, Words, decimal, is_all, limits, order, profile,
+    Attach, Between, CaptureFile, Draw, Emptied, Fault, Pair, Peer, Record, ServeScript,
+    SessionFiles, VERSION, Words, decimal, is_all, limits, order, profile,
 };
 use jdwp_wire::Limits;
 use jdwp_wire::number::GREATEST_INT;
@@ -29,6 +32,7 @@ enum Name {
     Show,
     Check,
     Capture,
+    Draw,
     ServeScript,
     Attach,
     Pair,
@@ -42,6 +46,7 @@ impl Name {
             Name::Show => "show",
             Name::Check => "check",
             Name::Capture => "capture",
+            Name::Draw => "draw",
             Name::ServeScript => "serve-script",
             Name::Attach => "attach",
             Name::Pair => "pair",
@@ -55,6 +60,7 @@ impl Name {
             Name::Show => "jdwp show",
             Name::Check => "jdwp check",
             Name::Capture => "jdwp capture",
+            Name::Draw => "jdwp draw",
             Name::ServeScript => "jdwp serve-script",
             Name::Attach => "jdwp attach",
             Name::Pair => "jdwp pair",
@@ -69,6 +75,9 @@ impl Name {
             Name::Check => "Judges a capture of a session: yes, or its first fault",
             Name::Capture =>
                 "Makes the capture of a session in a recording of the network, as tcpdump and Wireshark write it",
+            Name::Draw => {
+                "Draws a capture of a session as a picture in SVG: its messages, the threads' counts and the event requests"
+            }
             Name::ServeScript => {
                 "Serves the session of one debugger, from a file of its bytes, or sessions at a port"
             }
@@ -89,6 +98,7 @@ impl Name {
         match self {
             Name::Show | Name::Check => &OF_A_CAPTURE,
             Name::Capture => &OF_A_RECORDING,
+            Name::Draw => &OF_DRAW,
             Name::ServeScript => &OF_SERVE_SCRIPT,
             Name::Attach => &OF_ATTACH,
             Name::Pair => &OF_PAIR,
@@ -105,6 +115,8 @@ enum Part {
     Capture(&'static str),
     TargetPort,
     Stream,
+    FirstMessage,
+    MessageCount,
     From(&'static str),
     To(&'static str),
     /// The least port that may be named, too.
@@ -128,18 +140,24 @@ enum Part {
     Once,
 }
 
-static OF_A_CAPTURE: [Part; 3] = [
-    Part::Capture(
-        "A text of lines `> HEX` (from the debugger) and `< HEX` (from the target), or a recording of the network (pcap or pcapng)",
-    ),
+/// What help tells of the file of a capture.
+const CAPTURE_HELP: &str =
+    "A text of lines `> HEX` (from the debugger) and `< HEX` (from the target), or a recording of the network (pcap or pcapng); `-` is standard input";
+
+static OF_A_CAPTURE: [Part; 3] = [Part::Capture(CAPTURE_HELP), Part::TargetPort, Part::Stream];
+
+static OF_A_RECORDING: [Part; 3] = [
+    Part::Capture("A recording of the network (pcap or pcapng); `-` is standard input"),
     Part::TargetPort,
     Part::Stream,
 ];
 
-static OF_A_RECORDING: [Part; 3] = [
-    Part::Capture("A recording of the network (pcap or pcapng)"),
+static OF_DRAW: [Part; 5] = [
+    Part::Capture(CAPTURE_HELP),
     Part::TargetPort,
     Part::Stream,
+    Part::FirstMessage,
+    Part::MessageCount,
 ];
 
 static OF_SERVE_SCRIPT: [Part; 12] = [
@@ -229,6 +247,7 @@ fn name_of(words: &Words<'_>) -> Name {
         Words::Record(_) => Name::Record,
         Words::Show(_) => Name::Show,
         Words::Capture(_) => Name::Capture,
+        Words::Draw(_) => Name::Draw,
         Words::Check(_) | Words::Version => Name::Check,
     }
 }
@@ -260,6 +279,7 @@ fn read_matches<'a, S: AsStr>(
         Some(("show", found)) => Ok(Words::Show(read_capture(alloc, found, Name::Show)?)),
         Some(("check", found)) => Ok(Words::Check(read_capture(alloc, found, Name::Check)?)),
         Some(("capture", found)) => Ok(Words::Capture(read_capture(alloc, found, Name::Capture)?)),
+        Some(("draw", found)) => Ok(Words::Draw(read_draw(alloc, found)?)),
         Some(("serve-script", found)) => Ok(Words::ServeScript(read_serve_script(alloc, found)?)),
         Some(("record", found)) => Ok(Words::Record(read_record(alloc, found)?)),
         Some((name, found)) if runs_plan(words) => read_session(alloc, name, found),
@@ -301,6 +321,15 @@ fn read_capture<'a>(
         file: value(alloc, found, "file")?,
         target_port: read_target_port(alloc, found, of)?,
         stream: number(alloc, found, "stream", of)?,
+    })
+}
+
+/// The file of a capture, and which of its messages are drawn.
+fn read_draw<'a>(alloc: Global, found: &ArgMatches<'a>) -> Result<Draw<'a>, Fault<'a>> {
+    Ok(Draw {
+        capture: read_capture(alloc, found, Name::Draw)?,
+        from: number(alloc, found, "from", Name::Draw)?,
+        count: number(alloc, found, "count", Name::Draw)?,
     })
 }
 
@@ -585,6 +614,7 @@ fn commands<'a>(alloc: Global) -> Result<Vec<Command<'a>>, AllocError> {
         Name::Show,
         Name::Check,
         Name::Capture,
+        Name::Draw,
         Name::ServeScript,
         Name::Attach,
         Name::Pair,
@@ -624,6 +654,8 @@ fn argument_of<'a>(alloc: Global, part: Part) -> Result<Arg<'a>, AllocError> {
         Part::Capture(help) => Ok(capture(alloc, help)),
         Part::TargetPort => Ok(target_port(alloc)),
         Part::Stream => Ok(stream(alloc)),
+        Part::FirstMessage => Ok(first_message(alloc)),
+        Part::MessageCount => Ok(message_count(alloc)),
         Part::Memory => Ok(memory(alloc)),
         Part::Start => Ok(start(alloc)),
         Part::CountLimit => Ok(count_limit(alloc)),
@@ -764,28 +796,4 @@ fn timeout<'a>(alloc: Global) -> Result<Arg<'a>, AllocError> {
     ).range(1..=i64::from(GREATEST_INT)));
     let option: Arg<'a> = option.requires_arg("port")?;
     option.conflicts_with_all(&["from", "to"])
-}
-
-/// The file of a capture.
-fn capture<'a>(alloc: Global, help: &'a str) -> Arg<'a> {
-    file(alloc, "file", "FILE", help)
-}
-
-/// The target's port in a recording.
-fn target_port<'a>(alloc: Global) -> Arg<'a> {
-    let help =
-        "The target's port in a recording; without it the handshake or the beginning of the connection tells which side is the target";
-    option(alloc, "target-port", "N", help).value_parser(value_parser!(u32).range(1..=65535))
-}
-
-/// Which connection of a recording it is.
-fn stream<'a>(alloc: Global) -> Arg<'a> {
-    option(
-        alloc,
-        "stream",
-        "N",
-        "Which connection of a recording, from 1",
-    )
-    .value_parser(value_parser!(u32).range(1..=i64::from(GREATEST_INT)))
-    .default_value("1")
 }

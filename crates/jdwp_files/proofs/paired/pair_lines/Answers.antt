@@ -11,6 +11,6 @@ returns-clause-ran g c = record {
   need_not = c.write_cases-are_written.ensures;
   output = c.failure.result;
   told = c.outcome_of-told.result;
-  told_of = rw (c.verdict.ensures, c.limits-limits.ensures) at c.outcome_of-told.ensures;
+  told_of = rw (c.verdict-verdict.ensures, c.limits-limits.ensures) at c.outcome_of-told.ensures;
   outcome_is = rw c.standing-standing.ensures at c.with_standing.ensures;
 }
