@@ -4,7 +4,8 @@
     bench/jdi.py [--keep FOLDER] [--program PROGRAM]
 
 jdb is given the commands of JDB below, one behind the other, each once the prompt is there again; `bench/JdiSteps.java` does what an IDE
-does first, a line for each thing. Both are at the machine of examples/debug.json. With --keep what they printed is written to FOLDER. A
+does first, a line for each thing. Both are at the machine of examples/debug.json, each through `jdwp record`, and `jdwp check` is to judge what it
+wrote: yes. With --keep what they printed, and the captures, are written to FOLDER. A
 JDK is needed (Debian: openjdk-17-jdk-headless), and the program (crates/jdwp/out/jdwp where none is named). Ends with status 1 where
 anything is printed otherwise, which is told.
 """
@@ -80,7 +81,7 @@ STEPS = (
     "class loader: null",
     "lines of 5: Main:5",
     "class unload: asked",
-    "class path: THREW UnsupportedOperationException",
+    "class path: []",
     "breakpoint: Main:5",
     "frames: Main:5",
     'locals: greeting="hello" counter=instance of Counter',
@@ -115,11 +116,32 @@ class Server:
         return self.ran.communicate(timeout=PATIENCE)[0]
 
 
+class Recorder:
+    """`jdwp record` before a port, for one session."""
+
+    def __init__(self, program, port, file):
+        self.program, self.file, self.port = program, file, free_port()
+        self.ran = subprocess.Popen([program, "record", "--listen", str(self.port), "--port", str(port), "--to", file, "--once"],
+                                    stdout=subprocess.PIPE, stderr=subprocess.STDOUT, text=True)
+        end = time.time() + PATIENCE
+        while not is_listening(self.port) and time.time() < end:
+            time.sleep(0.05)
+
+    def judged(self):
+        """The verdict on what was recorded."""
+        try:
+            self.ran.communicate(timeout=PATIENCE)
+        except subprocess.TimeoutExpired:
+            self.ran.kill()
+            return "the recorder did not end"
+        return subprocess.run([self.program, "check", self.file], capture_output=True, text=True).stdout.strip()
+
+
 class Jdb:
     """A jdb whose output is read as it comes."""
 
     def __init__(self, port):
-        words = [jvm.tool("jdb"), "-sourcepath", os.path.join(jvm.ROOT, "bench"), "-attach", f"127.0.0.1:{port}"]
+        words = [jvm.tool("jdb"), "-attach", f"127.0.0.1:{port}"]
         self.ran = subprocess.Popen(words, stdin=subprocess.PIPE, stdout=subprocess.PIPE, stderr=subprocess.STDOUT, text=True)
         self.said = []
         threading.Thread(target=lambda: self.said.extend(iter(lambda: self.ran.stdout.read(1), "")), daemon=True).start()
@@ -197,12 +219,19 @@ def main():
     words = words.parse_args()
     wrong = []
     for run in (run_jdb, run_steps):
-        server = Server(words.program, free_port())
-        try:
-            wrong += run(server.port, words.keep)
-        finally:
-            told = server.end()
-            kept(words.keep, f"server_of_{run.__name__}.txt", told)
+        with tempfile.TemporaryDirectory() as folder:
+            server = Server(words.program, free_port())
+            recorder = Recorder(words.program, server.port, os.path.join(folder, "session.capture"))
+            try:
+                wrong += run(recorder.port, words.keep)
+                judged = recorder.judged()
+                if judged != "yes":
+                    wrong.append(f"{run.__name__}: the capture is judged `{judged}`")
+                with open(recorder.file, encoding="ascii") as capture:
+                    kept(words.keep, f"{run.__name__}.capture", capture.read())
+            finally:
+                told = server.end()
+                kept(words.keep, f"server_of_{run.__name__}.txt", told)
     for line in wrong:
         print(line)
     print("jdi: as it stands" if not wrong else f"jdi: {len(wrong)} lines otherwise")

@@ -52,7 +52,7 @@ jdwp_model | mirrors_what_was_seen; holds_only_suspended_threads; counts_at_most
 jdwp_debuggee | moves_counts_and_requests; leaves_state_at_plain_commands | What commands and steps do to counts and requests, and which change nothing
 jdwp_debuggee | steps_where_it_runs; starts_with_least_thread | A thread steps only where it lives and is not suspended, events are not held, and no thread stands at the count limit; where one lives VM_START names that of least id
 
-## A target that sends replies and events by threads of their own
+## A target that sends by threads of its own
 
 jdwp_apart | shows_only_suspended_threads; shows_what_stays_suspended | A live thread of which the debugger is sure is suspended now, its count no less than is sure, whatever is under way in whatever order; and without a break
 jdwp_apart | shows_each_suspended_thread; nobody_is_sure_after_a_resume_in_vain | When what is sure is the count; after a Resume in vain and one event no rule can tell
@@ -102,8 +102,9 @@ jdwp_wire | Wire::take found only fault memory; Wire::put ok err; Wire again; be
 jdwp_layout | layout_of | A command's row is that of the definitions' table of 94, or None
 jdwp_layout | read found only fault hides; write ok err; validate accepted fault memory; encodes_one_list | Data of any layout are read, written and judged, the first fault told; want of memory hides none, and judging takes none
 jdwp_show | check yes no; show begins fault lines | `check` and `show` name exactly the first fault of a capture and its line; the lines are those of the definitions
-jdwp_show | finds_each_message; stands_in_its_line; tells_widths_first; waits_where_it_stands | To these they are tied: each message once, in the line of its last byte; which widths hold; which command waits
+jdwp_show | finds_each_message; stands_in_its_line; tells_widths_first; waits_where_it_stands | To these they are tied: each message once, in its line; which widths hold; which command waits
 jdwp_judge | Judge::feed heard told; Judge::end lines fault; Judge::held; says_what_show_says | What is told of a session that goes on is a beginning of what `show` says of it, and all that is sure; what is kept is what waits
+jdwp_draw | Picture::read rows whole fault; svg | A drawing has an arrow for each message that `show` prints, in order, and beside it what a debugger's mirror has behind it
 jdwp_answer | Reply::read found only fault; Reply::of_data; LineTable::line_at | A reply is a struct exactly where it is in its layout; the line of a code index
 jdwp_event_fields | EventSet::of_composite value; read_composites_have_events | A composite that was read is events by kind that say the same, or its policy is none
 jdwp_text | read_data; read_items | What is read of a text encodes data of which `show` prints exactly that text; that each is read is tested
@@ -117,11 +118,11 @@ jdwp_script_machine | ScriptMachine::read value live; scripts_are_lawful; script
 jdwp_attach | read_plan; read_attach_plan; reads_each_form | Each line of a plan is read as exactly what it says, or the first that says nothing is told; want of memory hides no fault of a line before
 jdwp_plan_run | run_plan | Lines in words are carried out in order, each once, up to the one at which the run ends; an `expect` passes exactly where the text told is that text
 
-## Sessions over readers and writers, the program
+## Sessions over IO, the program
 
 jdwp_engine | serve in_order ended rounds limit at_most | What was read is fed and what was enqueued written, in order, or a beginning where a write failed, all flushed before each read; the session is its rounds, and each way to end comes only for its reason
 jdwp_live | serve_live in_order ended rounds | The same, live: threads step only where a read just before found nothing for as long as steps are apart
-jdwp_live | serve_live_sessions serves; serve_live_stream | So is each at a port; times are tested
+jdwp_live | serve_live_sessions serves; serve_live_stream | So is each at a port; times: tested
 jdwp_attach | attach_by_lines in_order ended last_flush line | The same of a debugger by a plan: the commands of its lines, in order, and between them a SuspendCount exactly where an event leaves its thread unsure, in `Order::Apart` alone; what is printed is what was told, or a beginning
 jdwp_attach | mirror_text; known_text; answered_line; seen_line | Lines are those of `show`; a mirror is told by its threads, then its requests; in `Order::Apart` each thread that was named, by what is sure
 jdwp_engine | serve_session served; serve_script fault untouched | A new target's session, from what was read to what was written; a script's fault with nothing touched
@@ -140,13 +141,13 @@ jdwp_end | End::front front; End::take_off; finds_first_message; SessionEnd take
 TAIL = """\
 ## Only tested
 
-- `main`, the programs over the library, and the crates of tests.
+- `main`, programs over the library, crates of tests.
 - The table of commands, the fields of modifiers and events, and commands by name, against other listings.
-- Texts: the lines of `show`; faults; the words of the command line; what is told of files, ports and outputs.
-- Worked sessions, byte for byte: of a target, a debugger, a link (cut at every place, lost behind each byte), plans over files, ports, memory and a connection.
+- Texts: lines of `show`, faults, the command line's words, what is told of files, ports and outputs.
+- Worked sessions, byte for byte, of each end and of both, cut at every place and lost behind each byte.
 - Peers that keep no rule: each fault at both ends; a session with each byte changed to each value; data cut at each byte; texts a million deep.
 - Each request for memory refused in turn, of each call (`link_tests`) and command (`bench/refused_memory.py`); that want of memory comes only then, which no contract can say.
-- Sockets, clocks and files: what goes through them, a recorder's too, options, closing, which errors pass; the forms of recordings; that a `Loopback` prints as memory does; that no file that is read is emptied under another name.
+- Sockets, clocks and files: what goes through them, a recorder's too, options, closing, which errors pass; the forms of recordings; that no file that is read is emptied under another name.
 
 [README](../README.md#what-is-proved) has what is neither, and what is trusted.
 """
