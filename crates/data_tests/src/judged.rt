@@ -2,4 +2,5 @@
 mod cut_tests;
 mod held_tests;
 mod sessions;
+mod text_tests;
 mod told_tests;

@@ -24,7 +24,7 @@ use Rattle.jdwp_debugger.specs.Debuggers.{Debugger}
 use Rattle.jdwp_debugger.specs.Holding.{at_least, is_held, is_named}
 use Rattle.jdwp_debugger.specs.DebuggerTurns.{Told, Nothing, Hello, Parked, Sizes, Answered, Seen, read_meaning}
 use Rattle.jdwp_show.specs.declared.capture_line.Sender.TheVariants.{Target}
-use Rattle.jdwp_show.specs.declared.pending.CommandNumber.{CommandNumber}
+use Rattle.jdwp_show.specs.declared.command_number.CommandNumber.{CommandNumber}
 use Rattle.jdwp_show.specs.Data.{shapes_of}
 use Rattle.jdwp_show.specs.DataText.{data_text, raw_text}
 use Rattle.jdwp_show.specs.MessageLines.{command_start, hello_line, reply_start}

@@ -23,7 +23,7 @@ use Rattle.jdwp_value.specs.Tags.{object_byte, tag_byte}
 use Rattle.jdwp_layout.specs.Meanings.{ScalarMeaning, Byte, Boolean, Int, Long, Text, Object, ReferenceType, Method, OfField, Frame, Located, Valued, Tagged, DatumMeaning, One, Many, Elements, Raw}
 use Rattle.jdwp_layout.specs.Rows.{Row, look_up, row_in}
 use Rattle.jdwp_layout.specs.CommandTable.{row_at, command_sets}
-use Rattle.jdwp_show.specs.declared.pending.CommandNumber.{CommandNumber}
+use Rattle.jdwp_show.specs.declared.command_number.CommandNumber.{CommandNumber}
 use Rattle.jdwp_show.specs.MessageLines.{name_in, name_text}
 use Rattle.jdwp_show.specs.DataText.{listed, id_text, tagged_text, escaped, quoted, string_text, type_tag_text, location_text, element_text, value_text, region_text, scalar_text, entry_text, datum_text, data_text, raw_text}
 

@@ -2,16 +2,20 @@
 use Rattle.std.proofs.Common.{◌≡◌, ℕ, ◌+◌, ◌<◌, ◌≤◌, Bool, true, false, cond, eqb, not, List, [], ◌∷◌, ◌++◌, length, drop, get_or, Option, Some, None, is_some, Result, Ok, Err, refl, sym, ap, ◌∙◌, arith, append_assoc, append-nil}
 use Rattle.std.specs.List.{filter_map, cons_option, take_while}
 use Rattle.std.proofs.lemmas.List.{drop_more, drop_all}
+use Rattle.std.proofs.lemmas.List.Concat.{flat_map-append}
 use Rattle.std.proofs.lemmas.List.Sums.{take_while-cons}
 use borrow.Author.Tests.{ne_eqb}
 use Rattle.hex.specs.declared.error.FromHexError.{FromHexError}
 use Rattle.hex.specs.Hex.{decode_of}
 use Rattle.jdwp_show.specs.declared.capture_line.Sender.{Sender}
 use Rattle.jdwp_show.specs.declared.capture_line.Sender.TheVariants.{Debugger, Target}
-use Rattle.jdwp_show.specs.Lines.{Line, line_of, line_by, reads, sent_by}
-use Rattle.jdwp_show.proofs.LineLemmas.{sent_by-append}
+use Rattle.jdwp_show.specs.Lines.{Line, line_of, line_by, reads, is_same, sent_by}
 use Rattle.jdwp_draw.specs.declared.sent.Sent.{Sent}
 use Rattle.jdwp_draw.specs.Reading.{IsDecoded, HasRead}
+
+-- what an end sent in these lines, and then in more
+sent_by-append : (sender : Sender) (lines more : List Line) → sent_by sender (lines ++ more) ≡ sent_by sender lines ++ sent_by sender more
+sent_by-append sender lines more = flat_map-append (λ (l : Line). cond (is_same sender l.sender) l.bytes []) lines more
 
 -- what the end sent in these lines
 abbrev pub sent_from : Sender → List (List ℕ) → List ℕ

@@ -18,13 +18,15 @@ use Rattle.jdwp_show.specs.Data.{shapes_of}
 use Rattle.jdwp_show.specs.declared.capture_fault.CaptureFault.{CaptureFault}
 use Rattle.jdwp_show.specs.declared.capture_line.Sender.{Sender}
 use Rattle.jdwp_show.specs.declared.capture_line.Sender.TheVariants.{Debugger, Target}
-use Rattle.jdwp_show.specs.declared.pending.CommandNumber.{CommandNumber}
+use Rattle.jdwp_show.specs.declared.command_number.CommandNumber.{CommandNumber}
 use Rattle.jdwp_show.specs.CaptureLines.{lines_after, items_that_hold, last_lines, capture_lines}
 use Rattle.jdwp_show.specs.Found.{Found, Sent, Faulty, found}
 use Rattle.jdwp_show.specs.Items.{Item, item_at, found_of}
 use Rattle.jdwp_show.specs.Lines.{bad_line, capture_of, sent_by}
 use Rattle.jdwp_show.specs.MessageLines.{mark, command_start, reply_start, request_in, request_text, reply_text, body_text, read_text, found_line}
 use Rattle.jdwp_show.specs.Rules.{command_fault, target_fault, order_fault, fault_of, waiting_for, is_debugger, has_begun}
+use Rattle.jdwp_show.specs.Tables.{standard}
+use Rattle.jdwp_show.specs.declared.table.Table.TheVariants.{Standard}
 use Rattle.jdwp_show.specs.Sessions.{items_in, widths_of, unanswered, first_after, fault_answer, first_fault, broken_in, bad_or_broken}
 use Rattle.jdwp_show.proofs.ItemLaws.{each_kept}
 use Rattle.jdwp_draw.specs.declared.sender.Sender as drawn
@@ -76,7 +78,7 @@ record TellsAs (widths : Option Widths) (waits : Option CommandNumber) (sender :
   message : Message
   line : List ℕ
   is : Sent message ≡ thing
-  whole : line ++ codes "\n" ≡ found_line widths waits sender thing
+  whole : line ++ codes "\n" ≡ found_line (standard widths) waits sender thing
   one : OneLine line
   marked : is_of_debugger line ≡ is_debugger sender
 
@@ -96,15 +98,15 @@ mark_line Target = record { all = refl }
 space : OneLine (codes " ")
 space = record { all = refl }
 
-command_line : (widths : Option Widths) (sender : Sender) (id : ℕ) (command : CommandNumber) (body : List ℕ) → OneLine (command_start sender id command ++ request_text widths command body)
+command_line : (widths : Option Widths) (sender : Sender) (id : ℕ) (command : CommandNumber) (body : List ℕ) → OneLine (command_start sender id command ++ request_text (standard widths) command body)
 command_line widths sender id command body =
     both (both (both (both (both (mark_line sender) space) (number id)) space) (name_line command)) (body_line widths (request_in (shapes_of command)) body)
 
-reply_line : (widths : Option Widths) (sender : Sender) (id : ℕ) (command : CommandNumber) (error : ℕ) (body : List ℕ) → OneLine (reply_start sender id command error ++ reply_text widths command error body)
+reply_line : (widths : Option Widths) (sender : Sender) (id : ℕ) (command : CommandNumber) (error : ℕ) (body : List ℕ) → OneLine (reply_start sender id command error ++ reply_text (standard widths) command error body)
 reply_line widths sender id command error body =
     both (both (both (both (both (both (both (mark_line sender) space) (number id)) (record { all = refl })) (name_line command)) space) (number error)) (body_line widths _ body)
 
-command_marked : (widths : Option Widths) (sender : Sender) (id : ℕ) (command : CommandNumber) (body : List ℕ) → is_of_debugger (command_start sender id command ++ request_text widths command body) ≡ is_debugger sender
+command_marked : (widths : Option Widths) (sender : Sender) (id : ℕ) (command : CommandNumber) (body : List ℕ) → is_of_debugger (command_start sender id command ++ request_text (standard widths) command body) ≡ is_debugger sender
 command_marked widths Debugger id command body = refl
 command_marked widths Target id command body = refl
 
@@ -113,7 +115,7 @@ commands_tell widths waits sender header set number body is =
     let command : CommandNumber = record { set = set; number = number } in
     record {
       message = Packet header body;
-      line = command_start sender header.id command ++ request_text widths command body;
+      line = command_start sender header.id command ++ request_text (standard widths) command body;
       is = refl;
       whole = rw is refl;
       one = command_line widths sender header.id command body;
@@ -123,7 +125,7 @@ commands_tell widths waits sender header set number body is =
 replies_tell : (widths : Option Widths) (command : CommandNumber) (header : Header) (error : ErrorCode) (body : List ℕ) → header.kind ≡ kind.Reply error → TellsAs widths (Some command) Target (Sent (Packet header body))
 replies_tell widths command header error body is = record {
   message = Packet header body;
-  line = reply_start Target header.id command error.0 ++ reply_text widths command error.0 body;
+  line = reply_start Target header.id command error.0 ++ reply_text (standard widths) command error.0 body;
   is = refl;
   whole = rw is refl;
   one = reply_line widths Target header.id command error.0 body;
@@ -188,18 +190,18 @@ none_first (Some a) b e = absurd cc
 
 -- what holds of these items, where this is the fault of the first
 abbrev held : Option Widths → List Item → Item → List Item → Option CaptureFault → List Item
-held widths before item items o = cond (is_some (option_map {U = ℕ × CaptureFault} (λ fault. (item.line, fault)) o)) [] (item ∷ unanswered (fault_answer widths) (before ++ item ∷ []) items)
+held widths before item items o = cond (is_some (option_map {U = ℕ × CaptureFault} (λ fault. (item.line, fault)) o)) [] (item ∷ unanswered (fault_answer (standard widths)) (before ++ item ∷ []) items)
 
 abbrev later_fault : Option Widths → List Item → Item → List Item → Option CaptureFault → Option (ℕ × CaptureFault)
-later_fault widths before item items o = option_or (option_map {U = ℕ × CaptureFault} (λ fault. (item.line, fault)) o) (first_after (fault_answer widths) (before ++ item ∷ []) items)
+later_fault widths before item items o = option_or (option_map {U = ℕ × CaptureFault} (λ fault. (item.line, fault)) o) (first_after (fault_answer (standard widths)) (before ++ item ∷ []) items)
 
 -- each that holds is shown: behind them all stands nothing where one of these items breaks a rule
 abbrev Shows : Option Widths → List Item → List Item → List Item → List ℕ → Type 0
-Shows widths before items holding last = AreShown widths before holding (pair_of (lines (lines_after widths before holding ++ last)) items)
+Shows widths before items holding last = AreShown widths before holding (pair_of (lines (lines_after (standard widths) before holding ++ last)) items)
 
-goes_by : (widths : Option Widths) (before : List Item) (item : Item) (items : List Item) (last : List ℕ) (o : Option CaptureFault) → fault_of widths before item ≡ o
+goes_by : (widths : Option Widths) (before : List Item) (item : Item) (items : List Item) (last : List ℕ) (o : Option CaptureFault) → fault_of (standard widths) before item ≡ o
     → (later_fault widths before item items o ≡ None) ⊎ (last ≡ [])
-    → ((first_after (fault_answer widths) (before ++ item ∷ []) items ≡ None) ⊎ (last ≡ []) → Shows widths (before ++ item ∷ []) items (unanswered (fault_answer widths) (before ++ item ∷ []) items) last)
+    → ((first_after (fault_answer (standard widths)) (before ++ item ∷ []) items ≡ None) ⊎ (last ≡ []) → Shows widths (before ++ item ∷ []) items (unanswered (fault_answer (standard widths)) (before ++ item ∷ []) items) last)
     → Shows widths before (item ∷ items) (held widths before item items o) last
 unfolding lines_after paired
 goes_by widths before item items last (Some fault) e (inl none) later = absurd cc
@@ -207,20 +209,20 @@ goes_by widths before item items last (Some fault) e (inr none) later = rw none 
 goes_by widths before item items last None e rests later =
     let begun = has_begun before in
     let waits = waiting_for before item.found in
-    let holding = unanswered (fault_answer widths) (before ++ item ∷ []) items in
-    let more = lines_after widths (before ++ item ∷ []) holding in
+    let holding = unanswered (fault_answer (standard widths)) (before ++ item ∷ []) items in
+    let more = lines_after (standard widths) (before ++ item ∷ []) holding in
     let t = tells widths begun waits item.sender item.found (none_first _ _ e) in
-    let one : lines ((found_line widths waits item.sender item.found ++ more) ++ last) ≡ t.line ∷ lines (more ++ last) =
+    let one : lines ((found_line (standard widths) waits item.sender item.found ++ more) ++ last) ≡ t.line ∷ lines (more ++ last) =
     ap (λ (x : List ℕ). lines ((x ++ more) ++ last)) (sym t.whole) ∙ ap lines (append_assoc (t.line ++ codes "\n") more last) ∙ first_line t.line (more ++ last) t.one in
-    let whole : pair_of (lines ((found_line widths waits item.sender item.found ++ more) ++ last)) (item ∷ items) ≡ record { sender = drawn_end item.sender; message = t.message; line = t.line } ∷ pair_of (lines (more ++ last)) items =
+    let whole : pair_of (lines ((found_line (standard widths) waits item.sender item.found ++ more) ++ last)) (item ∷ items) ≡ record { sender = drawn_end item.sender; message = t.message; line = t.line } ∷ pair_of (lines (more ++ last)) items =
     ap (λ (x : List (List ℕ)). pair_of x (item ∷ items)) one ∙ next_paired item.line item.sender item.found t.message t.line (lines (more ++ last)) items t.marked t.is in
     let first_is : IsShownAs widths before item (record { sender = drawn_end item.sender; message = t.message; line = t.line }) = record { sender = same_end item.sender; message = t.is; line = t.whole } in
     subst (λ (x : List ShownMeaning). AreShown widths before (item ∷ holding) x) (sym whole) (first_is, later rests)
 
-goes : (widths : Option Widths) (before items : List Item) (last : List ℕ) → (first_after (fault_answer widths) before items ≡ None) ⊎ (last ≡ []) → Shows widths before items (unanswered (fault_answer widths) before items) last
+goes : (widths : Option Widths) (before items : List Item) (last : List ℕ) → (first_after (fault_answer (standard widths)) before items ≡ None) ⊎ (last ≡ []) → Shows widths before items (unanswered (fault_answer (standard widths)) before items) last
 unfolding unanswered lines_after first_after
 goes widths before [] last rests = subst (λ (x : List ShownMeaning). AreShown widths before [] x) (sym (none_paired (lines last))) tt
-goes widths before (item ∷ items) last rests = goes_by widths before item items last (fault_of widths before item) refl rests (goes widths (before ++ item ∷ []) items last)
+goes widths before (item ∷ items) last rests = goes_by widths before item items last (fault_of (standard widths) before item) refl rests (goes widths (before ++ item ∷ []) items last)
 
 nothing_left : (bad : Option ℕ) (broken : Option (ℕ × CaptureFault)) (debugger target : List ℕ) (items : List Item) → (broken ≡ None) ⊎ (last_lines (bad_or_broken bad broken) debugger target items ≡ [])
 nothing_left None None debugger target items = inl refl
@@ -232,7 +234,7 @@ pub are_shown : (text : List ℕ) → AreShown (widths_of (items_in text)) [] (i
 are_shown text =
     let debugger = sent_by Debugger (capture_of text) in
     let target = sent_by Target (capture_of text) in
-    let all = goes (widths_of (items_in text)) [] (items_in text) (last_lines (first_fault text) debugger target (items_in text)) (nothing_left (bad_line text) (broken_in (items_in text)) debugger target (items_in text)) in
+    let all = goes (widths_of (items_in text)) [] (items_in text) (last_lines (first_fault text) debugger target (items_in text)) (nothing_left (bad_line text) (broken_in Standard (items_in text)) debugger target (items_in text)) in
     let by_debugger = subst (λ (x : List Found). AreShown (widths_of (items_in text)) [] (items_that_hold text) (paired (lines (capture_lines text)) x (found_of Target (items_in text)))) (each_kept (capture_of text) Debugger) all in
     subst (λ (x : List Found). AreShown (widths_of (items_in text)) [] (items_that_hold text) (paired (lines (capture_lines text)) (found debugger) x)) (each_kept (capture_of text) Target) by_debugger
 
@@ -242,10 +244,10 @@ abbrev pub line_after : ShownMeaning → List ℕ
 line_after m = m.line ++ codes "\n"
 
 -- their lines, a newline behind each, are those of the items
-pub lines_are : (widths : Option Widths) (before items : List Item) (ms : List ShownMeaning) → AreShown widths before items ms → flat_map line_after ms ≡ lines_after widths before items
+pub lines_are : (widths : Option Widths) (before items : List Item) (ms : List ShownMeaning) → AreShown widths before items ms → flat_map line_after ms ≡ lines_after (standard widths) before items
 unfolding lines_after
 lines_are widths before [] [] are = refl
 lines_are widths before [] (m ∷ ms) are = absurd are
 lines_are widths before (item ∷ items) [] are = absurd are
 lines_are widths before (item ∷ items) (m ∷ ms) are =
-    ap (λ (x : List ℕ). x ++ flat_map line_after ms) are.0.line ∙ ap (λ (x : List ℕ). found_line widths (waiting_for before item.found) item.sender item.found ++ x) (lines_are widths (before ++ item ∷ []) items ms are.1)
+    ap (λ (x : List ℕ). x ++ flat_map line_after ms) are.0.line ∙ ap (λ (x : List ℕ). found_line (standard widths) (waiting_for before item.found) item.sender item.found ++ x) (lines_are widths (before ++ item ∷ []) items ms are.1)

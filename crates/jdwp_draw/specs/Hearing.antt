@@ -23,7 +23,7 @@ use Rattle.jdwp_action.specs.Actions.{Carried, Content, Raw, Command}
 use Rattle.jdwp_mirror.specs.Messages.{Message, Reply, Report}
 use Rattle.jdwp_draw.specs.declared.sender.Sender.{Sender}
 use Rattle.jdwp_draw.specs.declared.sender.Sender.TheVariants.{Debugger, Target}
-use Rattle.jdwp_show.specs.declared.pending.CommandNumber.{CommandNumber}
+use Rattle.jdwp_show.specs.declared.command_number.CommandNumber.{CommandNumber}
 use Rattle.jdwp_show.specs.Data.{shapes_of}
 use Rattle.jdwp_show.specs.MessageLines.{request_in, reply_in}
 

@@ -12,6 +12,7 @@ use Rattle.jdwp_show.specs.Items.{Item}
 use Rattle.jdwp_show.specs.Lines.{capture_of, sent_by}
 use Rattle.jdwp_show.specs.MessageLines.{found_line}
 use Rattle.jdwp_show.specs.Rules.{waiting_for}
+use Rattle.jdwp_show.specs.Tables.{standard}
 use Rattle.jdwp_draw.specs.declared.sender.Sender.{Sender}
 use Rattle.jdwp_draw.specs.declared.sender.Sender.TheVariants.{Debugger, Target}
 
@@ -53,7 +54,7 @@ end_of Target = by.Target
 pub record IsShownAs (widths : Option Widths) (before : List Item) (item : Item) (m : ShownMeaning) : Type 0 where
   pub sender : end_of m.sender ≡ item.sender
   pub message : Sent m.message ≡ item.found
-  pub line : m.line ++ codes "\n" ≡ found_line widths (waiting_for before item.found) item.sender item.found
+  pub line : m.line ++ codes "\n" ≡ found_line (standard widths) (waiting_for before item.found) item.sender item.found
 
 -- There is a message for each of these items, in their order.
 abbrev pub AreShown : Option Widths → List Item → List Item → List ShownMeaning → Type 0

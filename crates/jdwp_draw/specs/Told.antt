@@ -7,7 +7,7 @@ use Rattle.jdwp_wire.specs.declared.packet.PacketKind.TheVariants as kind
 use Rattle.jdwp_wire.specs.Streams.{Message, Handshake, Packet}
 use Rattle.jdwp_wire.specs.Widths.{Widths}
 use Rattle.jdwp_mirror.specs.Widths.{widths_in}
-use Rattle.jdwp_show.specs.declared.pending.CommandNumber.{CommandNumber}
+use Rattle.jdwp_show.specs.declared.command_number.CommandNumber.{CommandNumber}
 use Rattle.jdwp_show.specs.Data.{NO_IDS, is_id_sizes}
 use Rattle.jdwp_draw.specs.declared.sender.Sender.{Sender}
 use Rattle.jdwp_draw.specs.declared.sender.Sender.TheVariants.{Debugger, Target}

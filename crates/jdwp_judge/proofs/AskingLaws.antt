@@ -1,5 +1,5 @@
 -- How many commands wait, where no item breaks a rule of frames, ends or ids.
-use Rattle.std.proofs.Common.{◌≡◌, ℕ, ◌+◌, Bool, true, false, cond, List, [], ◌∷◌, ◌++◌, Option, Some, None, is_some, option_map, refl, sym, ap, ◌∙◌, arith}
+use Rattle.std.proofs.Common.{◌≡◌, ℕ, ◌+◌, Bool, true, false, cond, List, [], ◌∷◌, ◌++◌, Option, Some, None, is_some, option_map, refl, sym, ◌∙◌, arith}
 use Rattle.std.specs.List.{count_by}
 use Rattle.std.specs.Option.{option_or}
 use Rattle.std.proofs.lemmas.List.Sums.{sum_by-append, sum_by-cons}
@@ -11,15 +11,14 @@ use Rattle.jdwp_show.specs.declared.capture_fault.CaptureFault.{CaptureFault}
 use Rattle.jdwp_show.specs.declared.capture_fault.CaptureFault.TheVariants.{WrongWay, IdInUse}
 use Rattle.jdwp_show.specs.declared.capture_line.Sender.{Sender}
 use Rattle.jdwp_show.specs.declared.capture_line.Sender.TheVariants.{Debugger, Target}
-use Rattle.jdwp_show.specs.declared.pending.CommandNumber.{CommandNumber}
+use Rattle.jdwp_show.specs.declared.command_number.CommandNumber.{CommandNumber}
+use Rattle.jdwp_show.specs.declared.terms.Terms.{Terms}
 use Rattle.jdwp_show.specs.Found.{Found, Sent, Faulty}
 use Rattle.jdwp_show.specs.Items.{Item}
 use Rattle.jdwp_show.specs.Rules.{command_fault, target_fault, order_fault, order_fault_of, data_fault, waiting_for}
 use Rattle.jdwp_show.specs.Sessions.{first_after, told_or_ended, fault_answer}
 use Rattle.jdwp_judge.specs.declared.asked.Asked.{Asked}
-use Rattle.jdwp_judge.specs.declared.heard.Heard.{Heard}
 use Rattle.jdwp_judge.specs.Asking.{packet_asks, packet_answers, asks, answers, count_asked, count_answered}
-use Rattle.jdwp_judge.specs.Heard.{thing, item_of}
 use Rattle.jdwp_judge.specs.Standing.{count_in, more_by, fewer_by}
 use Rattle.jdwp_judge.proofs.ToldLaws.{first-append, first_one}
 
@@ -70,15 +69,15 @@ one_more test items item =
 sums : (old new asked answered later_asked later_answered more fewer one other : ℕ) → old + answered ≡ asked → new + fewer ≡ old + more → more ≡ one → fewer ≡ other → later_asked ≡ asked + one → later_answered ≡ answered + other → new + later_answered ≡ later_asked
 sums old new asked answered later_asked later_answered more fewer one other a b c d e f = omega arith
 
-pub counted_more : (old new : Asked) (items : List Item) (heard : Heard) (waits : Option CommandNumber) (begun : Bool) → count_in old + count_answered items ≡ count_asked items
-    → count_in new + fewer_by waits heard.sender (thing heard.found) ≡ count_in old + more_by waits heard.sender (thing heard.found) → order_fault begun waits heard.sender (thing heard.found) ≡ None
-    → count_in new + count_answered (items ++ item_of heard ∷ []) ≡ count_asked (items ++ item_of heard ∷ [])
-counted_more old new items heard waits begun counted step holds =
-    let once = counts_once begun waits heard.sender (thing heard.found) holds in
-    let more : more_by waits heard.sender (thing heard.found) ≡ one_if (asks heard.sender (thing heard.found)) = once.more in
-    let fewer : fewer_by waits heard.sender (thing heard.found) ≡ one_if (answers heard.sender (thing heard.found)) = once.fewer in
-    let asked : count_asked (items ++ item_of heard ∷ []) ≡ count_asked items + one_if (asks heard.sender (thing heard.found)) = one_more (λ (x : Item). asks x.sender x.found) items (item_of heard) in
-    let answered : count_answered (items ++ item_of heard ∷ []) ≡ count_answered items + one_if (answers heard.sender (thing heard.found)) = one_more (λ (x : Item). answers x.sender x.found) items (item_of heard) in
+pub counted_more : (old new : Asked) (items : List Item) (x : Item) (waits : Option CommandNumber) (begun : Bool) → count_in old + count_answered items ≡ count_asked items
+    → count_in new + fewer_by waits x.sender x.found ≡ count_in old + more_by waits x.sender x.found → order_fault begun waits x.sender x.found ≡ None
+    → count_in new + count_answered (items ++ x ∷ []) ≡ count_asked (items ++ x ∷ [])
+counted_more old new items x waits begun counted step holds =
+    let once = counts_once begun waits x.sender x.found holds in
+    let more : more_by waits x.sender x.found ≡ one_if (asks x.sender x.found) = once.more in
+    let fewer : fewer_by waits x.sender x.found ≡ one_if (answers x.sender x.found) = once.fewer in
+    let asked : count_asked (items ++ x ∷ []) ≡ count_asked items + one_if (asks x.sender x.found) = one_more (λ (y : Item). asks y.sender y.found) items x in
+    let answered : count_answered (items ++ x ∷ []) ≡ count_answered items + one_if (answers x.sender x.found) = one_more (λ (y : Item). answers y.sender y.found) items x in
     sums (count_in old) (count_in new) _ _ _ _ _ _ _ _ counted step more fewer asked answered
 
 -- ---- that it breaks none
@@ -100,7 +99,7 @@ unmapped : {A B : Type 0} (f : A → B) (o : Option A) → option_map f o ≡ No
 unmapped f None e = refl
 unmapped f (Some a) e = absurd cc
 
-pub order_holds : (w : Option Widths) (items : List Item) (item : Item) → first_after (fault_answer w) [] (items ++ item ∷ []) ≡ None → order_fault_of items item ≡ None
+pub order_holds : (w : Terms) (items : List Item) (item : Item) → first_after (fault_answer w) [] (items ++ item ∷ []) ≡ None → order_fault_of items item ≡ None
 order_holds w items item e =
     let last : fault_answer w items item ≡ None = sym (first_one (fault_answer w) items item) ∙ right_none _ _ (sym (first-append (fault_answer w) [] items (item ∷ [])) ∙ e) in
     left_none (order_fault_of items item) (data_fault w (waiting_for items item.found) item.sender item.found) (unmapped _ _ last)

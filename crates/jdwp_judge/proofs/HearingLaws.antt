@@ -1,27 +1,31 @@
 -- One message more.
-use Rattle.std.proofs.Common.{◌≡◌, ℕ, ◌+◌, Bool, true, false, ◌||◌, ◌&&◌, ◌⊎◌, inl, inr, List, [], ◌∷◌, ◌++◌, Option, Some, None, is_some, refl, sym, ap, subst, ◌∙◌, arith, append-nil, append_assoc}
+use Rattle.std.proofs.Common.{◌≡◌, ℕ, ◌+◌, Bool, true, false, ◌||◌, ◌&&◌, ◌⊎◌, inl, inr, List, [], ◌∷◌, ◌++◌, Option, Some, None, is_some, refl, sym, ap, subst, ◌∙◌, append-nil}
 use Rattle.std.specs.Option.{option_or, option_flatten}
 use Rattle.std.proofs.lemmas.List.Folds.{list_any-append}
 use Rattle.std.proofs.lemmas.List.Sums.{fold-append}
 use Rattle.jdwp_wire.specs.Streams.{Handshake, Packet}
 use Rattle.jdwp_wire.specs.Widths.{Widths}
 use Rattle.jdwp_show.specs.declared.capture_fault.CaptureFault.{CaptureFault}
-use Rattle.jdwp_show.specs.declared.pending.CommandNumber.{CommandNumber}
+use Rattle.jdwp_show.specs.declared.command_number.CommandNumber.{CommandNumber}
+use Rattle.jdwp_show.specs.declared.table.Table.{Table}
+use Rattle.jdwp_show.specs.declared.terms.Terms.{Terms}
+use Rattle.jdwp_show.specs.declared.transcript.Transcript.{Transcript}
 use Rattle.jdwp_show.specs.Found.{Found, Sent, Faulty}
 use Rattle.jdwp_show.specs.Items.{Item}
 use Rattle.jdwp_show.specs.Rules.{has_begun, waiting, under, waiting_for, is_debugger, is_handshake, waits_after_found, order_fault, order_fault_of}
+use Rattle.jdwp_show.specs.Tables.{terms_by}
+use Rattle.jdwp_show.specs.Transcripts.{Tells}
+use Rattle.jdwp_show.proofs.TextLemmas.{grows_none}
 use Rattle.jdwp_show.specs.Sessions.{first_after, unanswered, told_widths, told_or_ended, widths_answer, widths_of}
 use Rattle.jdwp_judge.specs.declared.asked.Asked.{Asked}
-use Rattle.jdwp_judge.specs.declared.heard.Heard.{Heard}
-use Rattle.jdwp_judge.specs.declared.kept.Kept.{Kept}
 use Rattle.jdwp_judge.specs.declared.rulings.Rulings.{Rulings}
-use Rattle.jdwp_judge.specs.Heard.{thing, item_of, item_kept, items_kept, IsKept, AreKept}
-use Rattle.jdwp_judge.specs.Standing.{waits_in, count_in, more_by, fewer_by, IsAsked, IsAfter, IsTold, Parted, IsBeforeWanting, Standing, IsUnderWay, Follows, HasHeardOne, HasEnded, lines_behind, fault_behind}
-use Rattle.jdwp_judge.specs.Told.{wants_widths, widths_wanted, lines_told, fault_told, lines_under, fault_under, settled}
+use Rattle.jdwp_judge.specs.Heard.{Kept, items_kept, IsLooked, IsKept, AreKept, fault_by, line_by}
+use Rattle.jdwp_judge.specs.Standing.{waits_in, count_in, more_by, fewer_by, IsAsked, IsAfter, IsTold, Standing, IsUnderWay, Follows, IsRecorded, HasHeardOne, HasEnded, lines_behind, fault_behind, kept_in}
+use Rattle.jdwp_judge.specs.Told.{wants_widths, widths_wanted, lines_told, fault_told, lines_under, fault_under}
 use Rattle.jdwp_judge.specs.Asking.{count_asked, count_answered}
 use Rattle.jdwp_judge.proofs.AskingLaws.{counted_more, order_holds, ended_none}
-use Rattle.jdwp_judge.proofs.TellingLaws.{items_kept-append, AreKept-push}
-use Rattle.jdwp_judge.proofs.ToldLaws.{Released, released, waiting_on, ready_alone, waits_alone, waits_behind, goes_on, is_beginning, standing_lines, standing_fault, told_more, told_all, first_more}
+use Rattle.jdwp_judge.proofs.TellingLaws.{items_kept-append, AreKept-push, told_empty, told_one, told_stopped}
+use Rattle.jdwp_judge.proofs.ToldLaws.{released, waiting_on, ready_alone, waits_alone, waits_behind, goes_on, is_beginning, standing_lines, standing_fault, told_more, first_more}
 
 or_false : (b : Bool) → (b || false) ≡ b
 or_false true = refl
@@ -32,12 +36,12 @@ or_false false = refl
 pub asked_none : (a : Asked) → a.begun ≡ false → ((id : ℕ) → waits_in a id ≡ None) → IsAsked a []
 asked_none a begun waits = record { begun = begun; waits = waits }
 
-pub asked_more : (a b : Asked) (before : List Item) (item : Heard) → IsAsked a before → IsAfter a item b → IsAsked b (before ++ item_of item ∷ [])
-asked_more a b before item h one = record {
-  begun = one.begun ∙ ap (λ (x : Bool). x || (is_debugger item.sender && is_handshake (thing item.found))) h.begun
-      ∙ sym (list_any-append (λ (i : Item). is_debugger i.sender && is_handshake i.found) before (item_of item ∷ []) ∙ ap (λ (x : Bool). has_begun before || x) (or_false (is_debugger item.sender && is_handshake (thing item.found))));
-  waits = λ id. one.waits id ∙ ap (λ (w : Option CommandNumber). waits_after_found id item.sender (thing item.found) w) (h.waits id)
-      ∙ sym (fold-append (λ (w : Option CommandNumber) (i : Item). waits_after_found id i.sender i.found w) None before (item_of item ∷ []));
+pub asked_more : (a b : Asked) (before : List Item) (x : Item) → IsAsked a before → IsAfter a x b → IsAsked b (before ++ x ∷ [])
+asked_more a b before x h one = record {
+  begun = one.begun ∙ ap (λ (y : Bool). y || (is_debugger x.sender && is_handshake x.found)) h.begun
+      ∙ sym (list_any-append (λ (i : Item). is_debugger i.sender && is_handshake i.found) before (x ∷ []) ∙ ap (λ (y : Bool). has_begun before || y) (or_false (is_debugger x.sender && is_handshake x.found)));
+  waits = λ id. one.waits id ∙ ap (λ (w : Option CommandNumber). waits_after_found id x.sender x.found w) (h.waits id)
+      ∙ sym (fold-append (λ (w : Option CommandNumber) (i : Item). waits_after_found id i.sender i.found w) None before (x ∷ []));
 }
 
 under_same : (f g : ℕ → Option CommandNumber) (found : Found) → ((id : ℕ) → f id ≡ g id) → under f found ≡ under g found
@@ -45,81 +49,85 @@ under_same f g (Faulty fault) same = refl
 under_same f g (Sent Handshake) same = refl
 under_same f g (Sent (Packet header body)) same = same header.id
 
-under_asked : (a : Asked) (before : List Item) (item : Heard) (waits : Option CommandNumber) → IsAsked a before → waits ≡ under (waits_in a) (thing item.found) → waits ≡ waiting_for before (thing item.found)
-under_asked a before item waits h is = is ∙ under_same (waits_in a) (waiting before) (thing item.found) h.waits
-
-order_asked : (a : Asked) (before : List Item) (item : Heard) (waits : Option CommandNumber) → IsAsked a before → waits ≡ under (waits_in a) (thing item.found)
-    → order_fault a.begun waits item.sender (thing item.found) ≡ order_fault_of before (item_of item)
-order_asked a before item waits h is =
-    ap (λ (w : Option CommandNumber). order_fault a.begun w item.sender (thing item.found)) (under_asked a before item waits h is)
-    ∙ ap (λ (b : Bool). order_fault b (waiting_for before (thing item.found)) item.sender (thing item.found)) h.begun
-
 -- ---- behind a fault
 
 no_fault : {A : Type 0} (o : Option A) → is_some o ≡ true → o ≡ None → ⊥
 no_fault None some none = cc
 no_fault (Some p) some none = cc
 
-heard_by : (r : Rulings) (items : List Item) (item : Item) (old : List ℕ) (o : Option (ℕ × CaptureFault)) → r.fault ≡ o → is_some o ≡ true → fault_told items ≡ o → HasHeardOne items item r old old
-heard_by r items item old None is some told = cc
-heard_by r items item old (Some p) is some told =
-    let g = goes_on items (item ∷ []) in
+heard_by : (table : Table) (r : Rulings) (items : List Item) (item : Item) (old : Transcript) (o : Option (ℕ × CaptureFault)) → r.table ≡ table → r.fault ≡ o → is_some o ≡ true → fault_told table items ≡ o → HasHeardOne table items item r old old
+heard_by table r items item old None by_table is some told = cc
+heard_by table r items item old (Some p) by_table is some told =
+    let g = goes_on table items (item ∷ []) in
     let f = g.fault p told in
     record {
-      follows = record { fault = is ∙ sym f.0; under_way = λ none. absurd (no_fault (Some p) some (sym is ∙ none)) };
+      follows = record { by_table = by_table; fault = is ∙ sym f.0; under_way = λ none. absurd (no_fault (Some p) some (sym is ∙ none)) };
       added = [];
-      appended = sym (append-nil old);
-      told = g.lines ∙ ap (λ (l : List ℕ). lines_told items ++ l) f.1;
+      appended = grows_none old.lines;
+      told = g.lines ∙ ap (λ (l : List ℕ). lines_told table items ++ l) f.1;
     }
 
-pub heard_after_fault : (r : Rulings) (items : List Item) (item : Item) (old : List ℕ) → Follows r items → is_some r.fault ≡ true → HasHeardOne items item r old old
-heard_after_fault r items item old h some = heard_by r items item old r.fault refl some (sym h.fault)
+pub heard_after_fault : (table : Table) (r : Rulings) (items : List Item) (item : Item) (old : Transcript) → Follows table r items → is_some r.fault ≡ true → HasHeardOne table items item r old old
+heard_after_fault table r items item old h some = heard_by table r items item old r.fault h.by_table refl some (sym h.fault)
 
 -- ---- a message with what those before it say
 
--- what was looked up of a message, and kept
-pub record Looked (r : Rulings) (asked : Asked) (k : Kept) (s : Option (Option Widths)) : Type 0 where
-  pub after : IsAfter r.asked k.heard asked
-  pub waits : k.waits ≡ under (waits_in r.asked) (thing k.heard.found)
-  pub order : k.order ≡ order_fault r.asked.begun k.waits k.heard.sender (thing k.heard.found)
-  pub sizes : s ≡ option_or r.sizes (told_or_ended k.order (told_widths k.waits k.heard.sender (thing k.heard.found)))
-  pub counted : count_in asked + fewer_by k.waits k.heard.sender (thing k.heard.found) ≡ count_in r.asked + more_by k.waits k.heard.sender (thing k.heard.found)
+-- what was looked up of a message
+pub record Looked (r : Rulings) (asked : Asked) (x : Item) (begun : Bool) (waits : Option CommandNumber) (s : Option (Option Widths)) : Type 0 where
+  pub after : IsAfter r.asked x asked
+  pub begun_is : begun ≡ r.asked.begun
+  pub waits_is : waits ≡ under (waits_in r.asked) x.found
+  pub sizes : s ≡ option_or r.sizes (told_or_ended (order_fault begun waits x.sender x.found) (told_widths waits x.sender x.found))
+  pub counted : count_in asked + fewer_by waits x.sender x.found ≡ count_in r.asked + more_by waits x.sender x.found
 
-looked_kept : (r : Rulings) (asked : Asked) (k : Kept) (s : Option (Option Widths)) (items : List Item) → IsAsked r.asked items → Looked r asked k s → IsKept items k
-looked_kept r asked k s items h l = record {
-  waits = under_asked r.asked items k.heard k.waits h l.waits;
-  order = l.order ∙ order_asked r.asked items k.heard k.waits h l.waits;
+-- before the widths are sure
+pub looked_unsure : (old now : Rulings) (x : Item) (begun : Bool) (waits : Option CommandNumber) (s : Option (Option Widths)) → IsRecorded old begun waits x now → now.sizes ≡ None → s ≡ told_or_ended (order_fault begun waits x.sender x.found) (told_widths waits x.sender x.found)
+    → Looked old now.asked x begun waits s
+looked_unsure old now x begun waits s h unsure is = record {
+  after = h.after;
+  begun_is = h.begun_is;
+  waits_is = h.waits_is;
+  sizes = is ∙ ap (λ (o : Option (Option Widths)). option_or o (told_or_ended (order_fault begun waits x.sender x.found) (told_widths waits x.sender x.found))) (sym unsure ∙ h.sizes);
+  counted = h.counted;
 }
 
-looked_sizes : (r : Rulings) (asked : Asked) (k : Kept) (s : Option (Option Widths)) (items : List Item) → IsAsked r.asked items → Looked r asked k s → s ≡ option_or r.sizes (widths_answer items (item_kept k))
-looked_sizes r asked k s items h l =
-    let kept = looked_kept r asked k s items h l in
-    l.sizes ∙ ap (λ (o : Option CaptureFault). option_or r.sizes (told_or_ended o (told_widths k.waits k.heard.sender (thing k.heard.found)))) kept.order
-    ∙ ap (λ (w : Option CommandNumber). option_or r.sizes (told_or_ended (order_fault_of items (item_kept k)) (told_widths w k.heard.sender (thing k.heard.found)))) kept.waits
+is_looked : (r : Rulings) (asked : Asked) (x : Item) (begun : Bool) (waits : Option CommandNumber) (s : Option (Option Widths)) (items : List Item) → IsAsked r.asked items → Looked r asked x begun waits s → IsLooked items x.found begun waits
+is_looked r asked x begun waits s items h l = record {
+  begun_is = l.begun_is ∙ h.begun;
+  waits_is = l.waits_is ∙ under_same (waits_in r.asked) (waiting items) x.found h.waits;
+}
 
-looked_counted : (r : Rulings) (asked : Asked) (k : Kept) (s : Option (Option Widths)) (items : List Item) → Looked r asked k s → count_in r.asked + count_answered items ≡ count_asked items → k.order ≡ None
-    → count_in asked + count_answered (items ++ item_kept k ∷ []) ≡ count_asked (items ++ item_kept k ∷ [])
-looked_counted r asked k s items l counted holds = counted_more r.asked asked items k.heard k.waits r.asked.begun counted l.counted (sym l.order ∙ holds)
+-- the rule of frames, ends or ids that it breaks
+looked_order : (items : List Item) (x : Item) (begun : Bool) (waits : Option CommandNumber) → IsLooked items x.found begun waits → order_fault begun waits x.sender x.found ≡ order_fault_of items x
+looked_order items x begun waits h =
+    ap (λ (b : Bool). order_fault b waits x.sender x.found) h.begun_is ∙ ap (λ (w : Option CommandNumber). order_fault (has_begun items) w x.sender x.found) h.waits_is
 
-wanted_is : (items : List Item) (k : Kept) (b : Bool) → IsKept items k → wants_widths k.waits (thing k.heard.found) ≡ b → wants_widths (waiting_for items (thing k.heard.found)) (thing k.heard.found) ≡ b
-wanted_is items k b h is = ap (λ (w : Option CommandNumber). wants_widths w (thing k.heard.found)) (sym h.waits) ∙ is
+looked_sizes : (r : Rulings) (asked : Asked) (x : Item) (begun : Bool) (waits : Option CommandNumber) (s : Option (Option Widths)) (items : List Item) → IsAsked r.asked items → Looked r asked x begun waits s → s ≡ option_or r.sizes (widths_answer items x)
+looked_sizes r asked x begun waits s items h l =
+    let is = is_looked r asked x begun waits s items h l in
+    l.sizes ∙ ap (λ (o : Option CaptureFault). option_or r.sizes (told_or_ended o (told_widths waits x.sender x.found))) (looked_order items x begun waits is)
+    ∙ ap (λ (w : Option CommandNumber). option_or r.sizes (told_or_ended (order_fault_of items x) (told_widths w x.sender x.found))) is.waits_is
 
-none_wanted : (items : List Item) (k : Kept) → IsKept items k → wants_widths k.waits (thing k.heard.found) ≡ false → widths_wanted items (item_kept k) ≡ None
-none_wanted items k h is = rw (wanted_is items k false h is) refl
+looked_counted : (r : Rulings) (asked : Asked) (x : Item) (begun : Bool) (waits : Option CommandNumber) (s : Option (Option Widths)) (items : List Item) → Looked r asked x begun waits s → count_in r.asked + count_answered items ≡ count_asked items
+    → order_fault begun waits x.sender x.found ≡ None → count_in asked + count_answered (items ++ x ∷ []) ≡ count_asked (items ++ x ∷ [])
+looked_counted r asked x begun waits s items l counted holds = counted_more r.asked asked items x waits begun counted l.counted holds
 
-some_wanted : (items : List Item) (k : Kept) → IsKept items k → wants_widths k.waits (thing k.heard.found) ≡ true → widths_wanted items (item_kept k) ≡ Some (item_kept k)
-some_wanted items k h is = rw (wanted_is items k true h is) refl
+wanted_is : (table : Table) (items : List Item) (x : Item) (begun : Bool) (waits : Option CommandNumber) (b : Bool) → IsLooked items x.found begun waits → wants_widths table waits x.found ≡ b → wants_widths table (waiting_for items x.found) x.found ≡ b
+wanted_is table items x begun waits b h is = ap (λ (w : Option CommandNumber). wants_widths table w x.found) (sym h.waits_is) ∙ is
 
-kept_more : (r : Rulings) (k : Kept) (items : List Item) (u : IsUnderWay r items) → IsKept items k → AreKept u.front (r.kept.items ++ k ∷ [])
-kept_more r k items u h = AreKept-push u.front r.kept.items k u.kept (subst (λ (b : List Item). IsKept b k) u.standing.in_order h)
+none_wanted : (table : Table) (items : List Item) (x : Item) (begun : Bool) (waits : Option CommandNumber) → IsLooked items x.found begun waits → wants_widths table waits x.found ≡ false → widths_wanted table items x ≡ None
+none_wanted table items x begun waits h is = rw (wanted_is table items x begun waits false h is) refl
+
+some_wanted : (table : Table) (items : List Item) (x : Item) (begun : Bool) (waits : Option CommandNumber) → IsLooked items x.found begun waits → wants_widths table waits x.found ≡ true → widths_wanted table items x ≡ Some x
+some_wanted table items x begun waits h is = rw (wanted_is table items x begun waits true h is) refl
 
 -- ---- a message that waits
 
-waits_by : (items : List Item) (k : Kept) (s : Option (Option Widths)) (front : List Item) (kept : List Kept) → Standing items s front (items_kept kept) → IsKept items k → s ≡ None
-    → ((kept ≡ [] → ⊥) ⊎ (wants_widths k.waits (thing k.heard.found) ≡ true)) → (kept ≡ [] → ⊥) ⊎ (kept ≡ []) → unanswered widths_wanted front (items_kept kept ++ item_kept k ∷ []) ≡ []
-waits_by items k s front [] h is none (inl some) decided = absurd (some refl)
-waits_by items k s front [] h is none (inr wants) decided = waits_alone items (item_kept k) s front [] (item_kept k) h refl (some_wanted items k is wants)
-waits_by items k s front (x ∷ xs) h is none why decided = waits_behind front (items_kept (x ∷ xs)) (item_kept k ∷ []) (λ e. cc) (h.parted.known none).none_known
+waits_by : (table : Table) (items : List Item) (x : Item) (begun : Bool) (waits : Option CommandNumber) (s : Option (Option Widths)) (front : List Item) (kept : List Kept) → Standing table items s front (items_kept kept) → IsLooked items x.found begun waits → s ≡ None
+    → ((kept ≡ [] → ⊥) ⊎ (wants_widths table waits x.found ≡ true)) → (kept ≡ [] → ⊥) ⊎ (kept ≡ []) → unanswered (widths_wanted table) front (items_kept kept ++ x ∷ []) ≡ []
+waits_by table items x begun waits s front [] h is none (inl some) decided = absurd (some refl)
+waits_by table items x begun waits s front [] h is none (inr wants) decided = waits_alone table items x s front [] x h refl (some_wanted table items x begun waits is wants)
+waits_by table items x begun waits s front (y ∷ ys) h is none why decided = waits_behind table front (items_kept (y ∷ ys)) (x ∷ []) (λ e. cc) (h.parted.known none).none_known
 
 before_by : {A : Type 0} (s later : Option A) → option_or s later ≡ None → s ≡ None
 before_by None later e = refl
@@ -129,114 +137,166 @@ empty_or : (kept : List Kept) → (kept ≡ [] → ⊥) ⊎ (kept ≡ [])
 empty_or [] = inr refl
 empty_or (x ∷ xs) = inl (λ e. cc)
 
-pub heard_waiting : (r n : Rulings) (k : Kept) (items : List Item) (old : List ℕ) → Follows r items → r.fault ≡ None → Looked r n.asked k n.sizes → n.kept.items ≡ r.kept.items ++ k ∷ [] → n.fault ≡ None → n.sizes ≡ None
-    → ((r.kept.items ≡ [] → ⊥) ⊎ (wants_widths k.waits (thing k.heard.found) ≡ true)) → HasHeardOne items (item_kept k) n old old
-heard_waiting r n k items old h none l pushed still unsure why =
+-- it was kept
+pub heard_waiting : (table : Table) (r n : Rulings) (x : Item) (begun : Bool) (waits : Option CommandNumber) (items : List Item) (old : Transcript) → Follows table r items → n.table ≡ table → r.fault ≡ None → Looked r n.asked x begun waits n.sizes
+    → kept_in n.kept ≡ kept_in r.kept ++ record { item = x; begun = begun; waits = waits } ∷ [] → n.fault ≡ None → n.sizes ≡ None → ((kept_in r.kept ≡ [] → ⊥) ⊎ (wants_widths table waits x.found ≡ true)) → HasHeardOne table items x n old old
+heard_waiting table r n x begun waits items old h by_table none l pushed still unsure why =
+    let k : Kept = record { item = x; begun = begun; waits = waits } in
     let u = h.under_way none in
-    let kept = looked_kept r n.asked k n.sizes items u.asked l in
-    let sizes = looked_sizes r n.asked k n.sizes items u.asked l in
+    let is = is_looked r n.asked x begun waits n.sizes items u.asked l in
+    let sizes = looked_sizes r n.asked x begun waits n.sizes items u.asked l in
     let before : r.sizes ≡ None = before_by r.sizes _ (sym sizes ∙ unsure) in
-    let wants = waits_by items k r.sizes u.front r.kept.items u.standing kept before why (empty_or r.kept.items) in
-    let w = waiting_on items (item_kept k) r.sizes u.front (items_kept r.kept.items) u.standing (sym sizes ∙ unsure) wants in
-    let behind : items_kept n.kept.items ≡ items_kept r.kept.items ++ item_kept k ∷ [] = ap (λ (x : List Kept). items_kept x) pushed ∙ items_kept-append r.kept.items (k ∷ []) in
-    let stands : Standing (items ++ item_kept k ∷ []) n.sizes u.front (items_kept n.kept.items) = rw (sizes, behind) w.0 in
+    let wants = waits_by table items x begun waits r.sizes u.front (kept_in r.kept) u.standing is before why (empty_or (kept_in r.kept)) in
+    let w = waiting_on table items x r.sizes u.front (items_kept (kept_in r.kept)) u.standing (sym sizes ∙ unsure) wants in
+    let behind : items_kept (kept_in n.kept) ≡ items_kept (kept_in r.kept) ++ x ∷ [] = ap (λ (y : List Kept). items_kept y) pushed ∙ items_kept-append (kept_in r.kept) (k ∷ []) in
+    let stands : Standing table (items ++ x ∷ []) n.sizes u.front (items_kept (kept_in n.kept)) = rw (sizes, behind) w.0 in
+    let kept : AreKept u.front (kept_in r.kept ++ k ∷ []) = AreKept-push u.front (kept_in r.kept) k u.kept (subst (λ (l : List Item). IsKept l k) u.standing.in_order is) in
     record {
       follows = record {
-        fault = still ∙ sym (standing_fault (items ++ item_kept k ∷ []) n.sizes u.front (items_kept n.kept.items) stands);
+        by_table = by_table;
+        fault = still ∙ sym (standing_fault table (items ++ x ∷ []) n.sizes u.front (items_kept (kept_in n.kept)) stands);
         under_way = λ _. record {
-          asked = asked_more r.asked n.asked items k.heard u.asked l.after;
-          counted = looked_counted r n.asked k n.sizes items l u.counted (ended_none r.sizes k.order _ (sym l.sizes ∙ unsure));
+          asked = asked_more r.asked n.asked items x u.asked l.after;
+          counted = looked_counted r n.asked x begun waits n.sizes items l u.counted (ended_none r.sizes _ _ (sym l.sizes ∙ unsure));
           front = u.front;
           standing = stands;
-          kept = rw pushed (kept_more r k items u kept);
+          kept = subst (λ (l : List Kept). AreKept u.front l) (sym pushed) kept;
         };
       };
       added = [];
-      appended = sym (append-nil old);
-      told = w.1 ∙ sym (append-nil (lines_told items));
+      appended = grows_none old.lines;
+      told = w.1 ∙ sym (append-nil (lines_told table items));
     }
 
 -- ---- a message that is told, with those that waited
 
-ready_by : (items : List Item) (k : Kept) (s t : Option (Option Widths)) (front : List Item) (kept : List Kept) → Standing items s front (items_kept kept) → IsKept items k
-    → (t ≡ None → (kept ≡ []) × (wants_widths k.waits (thing k.heard.found) ≡ false)) → t ≡ None → first_after widths_wanted front (items_kept kept ++ item_kept k ∷ []) ≡ None
-ready_by items k s t front kept h is why none =
+ready_by : (table : Table) (items : List Item) (x : Item) (begun : Bool) (waits : Option CommandNumber) (s t : Option (Option Widths)) (front : List Item) (kept : List Kept) → Standing table items s front (items_kept kept) → IsLooked items x.found begun waits
+    → (t ≡ None → (kept ≡ []) × (wants_widths table waits x.found ≡ false)) → t ≡ None → first_after (widths_wanted table) front (items_kept kept ++ x ∷ []) ≡ None
+ready_by table items x begun waits s t front kept h is why none =
     let y = why none in
-    ready_alone items (item_kept k) s front (items_kept kept) h (ap (λ (x : List Kept). items_kept x) y.0) (none_wanted items k is y.1)
+    ready_alone table items x s front (items_kept kept) h (ap (λ (l : List Kept). items_kept l) y.0) (none_wanted table items x begun waits is y.1)
 
-pub heard_released : (r n : Rulings) (k : Kept) (s : Option (Option Widths)) (kept : List Kept) (items : List Item) (old new : List ℕ) → Follows r items → r.fault ≡ None → Looked r n.asked k s → kept ≡ r.kept.items ++ k ∷ []
-    → (s ≡ None → (r.kept.items ≡ []) × (wants_widths k.waits (thing k.heard.found) ≡ false)) → ((front : List Item) → AreKept front kept → IsTold (option_flatten s) front (items_kept kept) n.fault old new)
-    → n.kept.items ≡ [] → n.sizes ≡ s → HasHeardOne items (item_kept k) n old new
-heard_released r n k s kept items old new h none l pushed why tells empty same =
-    let u = h.under_way none in
-    let is = looked_kept r n.asked k s items u.asked l in
-    let sizes = looked_sizes r n.asked k s items u.asked l in
-    let t = option_or r.sizes (widths_answer items (item_kept k)) in
-    let ready = ready_by items k r.sizes s u.front r.kept.items u.standing is why in
-    let d = released items (item_kept k) r.sizes u.front (items_kept r.kept.items) u.standing (λ e. ready (sizes ∙ e)) in
-    let behind : items_kept kept ≡ items_kept r.kept.items ++ item_kept k ∷ [] = ap (λ (x : List Kept). items_kept x) pushed ∙ items_kept-append r.kept.items (k ∷ []) in
-    let told = tells u.front (rw pushed (kept_more r k items u is)) in
-    let v : option_flatten s ≡ option_flatten t = ap (λ (x : Option (Option Widths)). option_flatten x) sizes in
-    let now = items_kept r.kept.items ++ item_kept k ∷ [] in
-    let lines : new ≡ old ++ lines_behind (option_flatten t) u.front now =
-    told.lines ∙ ap (λ (x : Option Widths). old ++ lines_behind x u.front (items_kept kept)) v ∙ ap (λ (x : List Item). old ++ lines_behind (option_flatten t) u.front x) behind in
-    let fault : n.fault ≡ fault_behind (option_flatten t) u.front now =
-    told.fault_is ∙ ap (λ (x : Option Widths). fault_behind x u.front (items_kept kept)) v ∙ ap (λ (x : List Item). fault_behind (option_flatten t) u.front x) behind in
+stopped_by : (w : Terms) (front kept : List Item) (x : Item) (fault : Option (ℕ × CaptureFault)) (old new : Transcript) → IsTold w front kept fault old new → is_some fault ≡ true → IsTold w front (kept ++ x ∷ []) fault old new
+stopped_by w front kept x None old new h some = absurd cc
+stopped_by w front kept x (Some p) old new h some = told_stopped w front kept (x ∷ []) p old new h
+
+heard_told : (table : Table) (r n : Rulings) (x : Item) (begun : Bool) (waits : Option CommandNumber) (s : Option (Option Widths)) (items : List Item) (old new : Transcript) (u : IsUnderWay table r items) → n.table ≡ table → Looked r n.asked x begun waits s
+    → (s ≡ None → (kept_in r.kept ≡ []) × (wants_widths table waits x.found ≡ false)) → IsTold (terms_by table (option_flatten s)) u.front (items_kept (kept_in r.kept) ++ x ∷ []) n.fault old new → kept_in n.kept ≡ [] → n.sizes ≡ s → HasHeardOne table items x n old new
+heard_told table r n x begun waits s items old new u by_table l why told empty same =
+    let is = is_looked r n.asked x begun waits s items u.asked l in
+    let sizes = looked_sizes r n.asked x begun waits s items u.asked l in
+    let t = option_or r.sizes (widths_answer items x) in
+    let ready = ready_by table items x begun waits r.sizes s u.front (kept_in r.kept) u.standing is why in
+    let d = released table items x r.sizes u.front (items_kept (kept_in r.kept)) u.standing (λ e. ready (sizes ∙ e)) in
+    let v : option_flatten s ≡ option_flatten t = ap (λ (y : Option (Option Widths)). option_flatten y) sizes in
+    let now = items_kept (kept_in r.kept) ++ x ∷ [] in
+    let told_now : IsTold (terms_by table (option_flatten t)) u.front now n.fault old new = subst (λ (w : Option Widths). IsTold (terms_by table w) u.front now n.fault old new) v told in
     let sizes_now : n.sizes ≡ t = same ∙ sizes in
-    let none_kept : items_kept n.kept.items ≡ [] = ap (λ (x : List Kept). items_kept x) empty in
+    let none_kept : items_kept (kept_in n.kept) ≡ [] = ap (λ (y : List Kept). items_kept y) empty in
     record {
       follows = record {
-        fault = fault ∙ sym d.fault;
+        by_table = by_table;
+        fault = told_now.fault_is ∙ sym d.fault;
         under_way = λ quiet. record {
-          asked = asked_more r.asked n.asked items k.heard u.asked l.after;
-          counted = looked_counted r n.asked k s items l u.counted (is.order ∙ order_holds (option_flatten t) items (item_kept k) (d.standing (sym fault ∙ quiet)).none_breaks);
-          front = items ++ item_kept k ∷ [];
-          standing = rw (sizes_now, none_kept) (d.standing (sym fault ∙ quiet));
-          kept = rw empty tt;
+          asked = asked_more r.asked n.asked items x u.asked l.after;
+          counted = looked_counted r n.asked x begun waits s items l u.counted (looked_order items x begun waits is ∙ order_holds (terms_by table (option_flatten t)) items x (d.standing (sym told_now.fault_is ∙ quiet)).none_breaks);
+          front = items ++ x ∷ [];
+          standing = rw (sizes_now, none_kept) (d.standing (sym told_now.fault_is ∙ quiet));
+          kept = subst (λ (l : List Kept). AreKept (items ++ x ∷ []) l) (sym empty) tt;
         };
       };
-      added = lines_behind (option_flatten t) u.front now;
-      appended = lines;
+      added = lines_behind (terms_by table (option_flatten t)) u.front now;
+      appended = told_now.lines;
       told = d.lines;
     }
 
+told_by_table : (table own : Table) (w : Option Widths) (before items : List Item) (fault : Option (ℕ × CaptureFault)) (old new : Transcript) → own ≡ table → IsTold (terms_by own w) before items fault old new → IsTold (terms_by table w) before items fault old new
+told_by_table table own w before items fault old new by_table h = subst (λ (t : Table). IsTold (terms_by t w) before items fault old new) by_table h
+
+-- one of those that waited breaks a rule
+pub heard_stopped : (table own : Table) (r n : Rulings) (x : Item) (begun : Bool) (waits : Option CommandNumber) (s : Option (Option Widths)) (items : List Item) (old new : Transcript) → Follows table r items → own ≡ table → n.table ≡ own → r.fault ≡ None → Looked r n.asked x begun waits s
+    → (s ≡ None → (kept_in r.kept ≡ []) × (wants_widths table waits x.found ≡ false)) → ((front : List Item) → AreKept front (kept_in r.kept) → IsTold (terms_by own (option_flatten s)) front (items_kept (kept_in r.kept)) n.fault old new)
+    → is_some n.fault ≡ true → kept_in n.kept ≡ [] → n.sizes ≡ s → HasHeardOne table items x n old new
+heard_stopped table own r n x begun waits s items old new h by_table still none l why tells some empty same =
+    let u = h.under_way none in
+    let told = told_by_table table own (option_flatten s) u.front (items_kept (kept_in r.kept)) n.fault old new by_table (tells u.front u.kept) in
+    heard_told table r n x begun waits s items old new u (still ∙ by_table) l why (stopped_by (terms_by table (option_flatten s)) u.front (items_kept (kept_in r.kept)) x n.fault old new told some) empty same
+
+-- none of them does
+pub heard_released : (table own : Table) (r n : Rulings) (x : Item) (begun : Bool) (waits : Option CommandNumber) (s : Option (Option Widths)) (items : List Item) (fault : Option (ℕ × CaptureFault)) (old mid new : Transcript) → Follows table r items → own ≡ table → n.table ≡ own → r.fault ≡ None → Looked r n.asked x begun waits s
+    → (s ≡ None → (kept_in r.kept ≡ []) × (wants_widths table waits x.found ≡ false)) → ((front : List Item) → AreKept front (kept_in r.kept) → IsTold (terms_by own (option_flatten s)) front (items_kept (kept_in r.kept)) fault old mid)
+    → fault ≡ None → n.fault ≡ fault_by (terms_by own (option_flatten s)) begun waits x → Tells mid (line_by (terms_by own (option_flatten s)) begun waits x) new → kept_in n.kept ≡ [] → n.sizes ≡ s → HasHeardOne table items x n old new
+heard_released table own r n x begun waits s items fault old mid new h by_table still none l why tells quiet is line empty same =
+    let u = h.under_way none in
+    let w = option_flatten s in
+    let first : IsTold (terms_by table w) u.front (items_kept (kept_in r.kept)) None old mid = subst (λ (o : Option (ℕ × CaptureFault)). IsTold (terms_by table w) u.front (items_kept (kept_in r.kept)) o old mid) quiet (told_by_table table own w u.front (items_kept (kept_in r.kept)) fault old mid by_table (tells u.front u.kept)) in
+    let fault_here : n.fault ≡ fault_by (terms_by table w) begun waits x = is ∙ ap (λ (t : Table). fault_by (terms_by t w) begun waits x) by_table in
+    let line_here : Tells mid (line_by (terms_by table w) begun waits x) new = subst (λ (t : Table). Tells mid (line_by (terms_by t w) begun waits x) new) by_table line in
+    let looked : IsLooked (u.front ++ items_kept (kept_in r.kept)) x.found begun waits = subst (λ (b : List Item). IsLooked b x.found begun waits) u.standing.in_order (is_looked r n.asked x begun waits s items u.asked l) in
+    heard_told table r n x begun waits s items old new u (still ∙ by_table) l why (told_one (terms_by table w) u.front (items_kept (kept_in r.kept)) x begun waits n.fault old mid new first looked fault_here line_here) empty same
+
+-- nothing waits, and this does not have to
+pub heard_at_once : (table own : Table) (r n : Rulings) (x : Item) (begun : Bool) (waits : Option CommandNumber) (items : List Item) (old new : Transcript) → Follows table r items → own ≡ table → n.table ≡ own → r.fault ≡ None → Looked r n.asked x begun waits None → kept_in r.kept ≡ [] → wants_widths table waits x.found ≡ false
+    → n.fault ≡ fault_by (terms_by own None) begun waits x → Tells old (line_by (terms_by own None) begun waits x) new → kept_in n.kept ≡ [] → n.sizes ≡ None → HasHeardOne table items x n old new
+heard_at_once table own r n x begun waits items old new h by_table still none l empty unwanted is line left sizes =
+    heard_released table own r n x begun waits None items None old old new h by_table still none l (λ e. (empty, unwanted)) (λ front are. told_empty (terms_by own None) front (kept_in r.kept) None old empty refl) refl is line left sizes
+
+-- ---- a message that is told once the widths are sure
+
+none_items : (kept : List Kept) → items_kept kept ≡ [] → kept ≡ []
+none_items [] e = refl
+none_items (x ∷ xs) e = absurd cc
+
+pub heard_sure : (table : Table) (r n : Rulings) (x : Item) (begun : Bool) (waits : Option CommandNumber) (w : Option Widths) (items : List Item) (old new : Transcript) → Follows table r items → n.table ≡ r.table → r.fault ≡ None → r.sizes ≡ Some w → IsAfter r.asked x n.asked → begun ≡ r.asked.begun
+    → waits ≡ under (waits_in r.asked) x.found → count_in n.asked + fewer_by waits x.sender x.found ≡ count_in r.asked + more_by waits x.sender x.found → n.sizes ≡ r.sizes → kept_in n.kept ≡ kept_in r.kept → n.fault ≡ fault_by (terms_by r.table w) begun waits x
+    → Tells old (line_by (terms_by r.table w) begun waits x) new → HasHeardOne table items x n old new
+heard_sure table r n x begun waits w items old new h still none sure after b c count sizes kept is line =
+    let u = h.under_way none in
+    let some : is_some r.sizes ≡ true = ap (λ (s : Option (Option Widths)). is_some s) sure in
+    let empty : kept_in r.kept ≡ [] = none_items (kept_in r.kept) (u.standing.parted.all_known some) in
+    let same : Some w ≡ option_or r.sizes (told_or_ended (order_fault begun waits x.sender x.found) (told_widths waits x.sender x.found)) =
+    ap (λ (s : Option (Option Widths)). option_or s (told_or_ended (order_fault begun waits x.sender x.found) (told_widths waits x.sender x.found))) (sym sure) in
+    heard_released table r.table r n x begun waits (Some w) items None old old new h h.by_table still none (record { after = after; begun_is = b; waits_is = c; sizes = same; counted = count }) (λ e. absurd cc) (λ front are. told_empty (terms_by r.table w) front (kept_in r.kept) None old empty refl) refl is line (kept ∙ empty)
+    (sizes ∙ sure)
+
 -- ---- the end
 
-ended_by : (r : Rulings) (items : List Item) (old : List ℕ) (o : Option (ℕ × CaptureFault)) → r.fault ≡ o → is_some o ≡ true → fault_told items ≡ o → HasEnded items r old old
-ended_by r items old None is some told = cc
-ended_by r items old (Some p) is some told =
-    let b = is_beginning items in
+ended_by : (table : Table) (r : Rulings) (items : List Item) (old : Transcript) (o : Option (ℕ × CaptureFault)) → r.fault ≡ o → is_some o ≡ true → fault_told table items ≡ o → HasEnded table items r old old
+ended_by table r items old None is some told = cc
+ended_by table r items old (Some p) is some told =
+    let b = is_beginning table items in
     let f = b.fault p told in
     record {
       fault = is ∙ sym f.0;
       added = [];
-      appended = sym (append-nil old);
-      told = b.lines ∙ ap (λ (l : List ℕ). lines_told items ++ l) f.1;
+      appended = grows_none old.lines;
+      told = b.lines ∙ ap (λ (l : List ℕ). lines_told table items ++ l) f.1;
     }
 
-pub ended_after_fault : (r : Rulings) (items : List Item) (old : List ℕ) → Follows r items → is_some r.fault ≡ true → HasEnded items r old old
-ended_after_fault r items old h some = ended_by r items old r.fault refl some (sym h.fault)
+pub ended_after_fault : (table : Table) (r : Rulings) (items : List Item) (old : Transcript) → Follows table r items → is_some r.fault ≡ true → HasEnded table items r old old
+ended_after_fault table r items old h some = ended_by table r items old r.fault refl some (sym h.fault)
 
-pub ended_released : (r n : Rulings) (items : List Item) (old new : List ℕ) → Follows r items → r.fault ≡ None → ((front : List Item) → AreKept front r.kept.items → IsTold (option_flatten r.sizes) front (items_kept r.kept.items) n.fault old new) → HasEnded items n old new
-ended_released r n items old new h none tells =
+pub ended_released : (table : Table) (r n : Rulings) (items : List Item) (old new : Transcript) → Follows table r items → r.fault ≡ None → ((front : List Item) → AreKept front (kept_in r.kept) → IsTold (terms_by r.table (option_flatten r.sizes)) front (items_kept (kept_in r.kept)) n.fault old new) → HasEnded table items n old new
+ended_released table r n items old new h none tells =
     let u = h.under_way none in
     let s = u.standing in
     let w = option_flatten r.sizes in
-    let told = tells u.front u.kept in
+    let told = told_by_table table r.table w u.front (items_kept (kept_in r.kept)) n.fault old new h.by_table (tells u.front u.kept) in
     let widths : widths_of items ≡ w = ap (λ (x : Option (Option Widths)). option_flatten x) s.settled_is in
     record {
-      fault = told.fault_is ∙ sym (ap (λ (x : Option Widths). fault_under x items) widths ∙ ap (λ (x : List Item). fault_behind w [] x) s.in_order ∙ first_more _ [] u.front (items_kept r.kept.items) s.none_breaks);
-      added = lines_behind w u.front (items_kept r.kept.items);
+      fault = told.fault_is ∙ sym (ap (λ (x : Option Widths). fault_under (terms_by table x) items) widths ∙ ap (λ (x : List Item). fault_behind (terms_by table w) [] x) s.in_order ∙ first_more _ [] u.front (items_kept (kept_in r.kept)) s.none_breaks);
+      added = lines_behind (terms_by table w) u.front (items_kept (kept_in r.kept));
       appended = told.lines;
-      told = ap (λ (x : Option Widths). lines_under x items) widths ∙ ap (λ (x : List Item). lines_behind w [] x) s.in_order ∙ told_more w [] u.front (items_kept r.kept.items) s.none_breaks
-          ∙ ap (λ (x : List ℕ). x ++ lines_behind w u.front (items_kept r.kept.items)) (sym (standing_lines items r.sizes u.front (items_kept r.kept.items) s));
+      told = ap (λ (x : Option Widths). lines_under (terms_by table x) items) widths ∙ ap (λ (x : List Item). lines_behind (terms_by table w) [] x) s.in_order ∙ told_more (terms_by table w) [] u.front (items_kept (kept_in r.kept)) s.none_breaks
+          ∙ ap (λ (x : List ℕ). x ++ lines_behind (terms_by table w) u.front (items_kept (kept_in r.kept))) (sym (standing_lines table items r.sizes u.front (items_kept (kept_in r.kept)) s));
     }
 
 -- ---- the beginning
 
-pub follows_none : (r : Rulings) → r.asked.begun ≡ false → ((id : ℕ) → waits_in r.asked id ≡ None) → count_in r.asked ≡ 0 → r.sizes ≡ None → r.kept.items ≡ [] → r.fault ≡ None → Follows r []
+pub follows_none : (table : Table) (r : Rulings) → r.table ≡ table → r.asked.begun ≡ false → ((id : ℕ) → waits_in r.asked id ≡ None) → count_in r.asked ≡ 0 → r.sizes ≡ None → kept_in r.kept ≡ [] → r.fault ≡ None → Follows table r []
 unfolding first_after unanswered
-follows_none r begun waits count sizes empty none = record {
+follows_none table r by_table begun waits count sizes empty none = record {
+  by_table = by_table;
   fault = none;
   under_way = λ _. record {
     asked = asked_none r.asked begun waits;
@@ -251,6 +311,6 @@ follows_none r begun waits count sizes empty none = record {
       };
       none_breaks = refl;
     };
-    kept = rw empty tt;
+    kept = subst (λ (l : List Kept). AreKept [] l) (sym empty) tt;
   };
 }

@@ -1,34 +1,33 @@
 -- How much is kept.
-use Rattle.std.proofs.Common.{◌≡◌, ℕ, ◌+◌, ◌-◌, ◌<◌, ◌≤◌, Bool, true, false, cond, eqb, ltb, ◌||◌, inl, inr, List, [], ◌∷◌, ◌++◌, length, Option, Some, None, is_some, refl, sym, ap, ◌∙◌, arith}
+use Rattle.std.proofs.Common.{◌≡◌, ℕ, ◌+◌, ◌<◌, ◌≤◌, Bool, true, false, cond, eqb, ltb, ◌||◌, inl, inr, List, [], length, Option, None, is_some, refl, sym, ap, ◌∙◌, arith}
 use Rattle.std.proofs.lemmas.Bool.{cases_lt, ltb-false, le-ltb}
 use Rattle.std.proofs.lemmas.List.{length-append, length-map}
-use Rattle.jdwp_wire.specs.declared.frame.FrameFault.{FrameFault}
 use Rattle.jdwp_wire.specs.declared.frame.FrameFault.TheVariants.{ShortLength, TooLong, BadFlags}
 use Rattle.jdwp_wire.specs.declared.frame.NextHello.{NextHello}
 use Rattle.jdwp_wire.specs.declared.frame.NextHello.TheVariants as hello
 use Rattle.jdwp_wire.specs.Frames.{Front, front, flags_field, length_field, whole_or_more, flagged, measured}
 use Rattle.jdwp_wire.specs.Frames as frames
-use Rattle.jdwp_wire.specs.Handshake.{handshake_front, handshake_bytes, HandshakeFrontOf}
+use Rattle.jdwp_wire.specs.Handshake.{handshake_front, HandshakeFrontOf}
 use Rattle.jdwp_wire.specs.HandshakeLaws.{handshake_front_is}
 use Rattle.jdwp_wire.specs.Limits.{standard_limits}
 use Rattle.jdwp_wire.specs.Streams.{NextMessage, Whole, More, Fault, next_message, after_handshake, at_handshake}
 use Rattle.jdwp_wire.specs.Widths.{Widths}
 use Rattle.jdwp_show.specs.declared.capture_line.Sender.{Sender}
 use Rattle.jdwp_show.specs.declared.capture_line.Sender.TheVariants.{Debugger, Target}
-use Rattle.jdwp_show.specs.Found.{Found, Sent, Faulty, found_at, found_after}
+use Rattle.jdwp_show.specs.declared.table.Table.{Table}
+use Rattle.jdwp_show.specs.Found.{Found, found_at, found_after}
 use Rattle.jdwp_show.specs.Items.{Item, items_of}
 use Rattle.jdwp_show.specs.Lines.{Line, sent_by}
 use Rattle.jdwp_show.proofs.FoundLemmas.{found_step}
 use Rattle.jdwp_judge.specs.declared.coming.Coming.{Coming}
 use Rattle.jdwp_judge.specs.declared.held.Held.{Held}
 use Rattle.jdwp_judge.specs.declared.judge.Judge.{Judge}
-use Rattle.jdwp_judge.specs.declared.kept.Kept.{Kept}
 use Rattle.jdwp_judge.specs.Coming.{IsComing}
-use Rattle.jdwp_judge.specs.Heard.{item_kept, items_kept}
+use Rattle.jdwp_judge.specs.Heard.{Kept, items_kept}
 use Rattle.jdwp_judge.specs.Held.{IsRest, IsHeld}
-use Rattle.jdwp_judge.specs.Judges.{HasHeard}
-use Rattle.jdwp_judge.specs.Standing.{Standing, count_in}
-use Rattle.jdwp_judge.specs.Told.{settled, known, known_by, told_fault}
+use Rattle.jdwp_judge.specs.Judges.{HasHeardUnder}
+use Rattle.jdwp_judge.specs.Standing.{Standing, count_in, kept_in}
+use Rattle.jdwp_judge.specs.Told.{settled, known, known_by, told_fault_under}
 use Rattle.jdwp_judge.proofs.ToldLaws.{standing_known}
 
 -- ---- what is not whole is shorter than a packet may be
@@ -97,14 +96,14 @@ is_rest sender pieces coming count h is = record {
 -- ---- the messages that wait
 
 -- so many wait of these items
-record AreWaiting (items : List Item) (count : ℕ) : Type 0 where
-  behind : count + length (known items) ≡ length items
+record AreWaiting (table : Table) (items : List Item) (count : ℕ) : Type 0 where
+  behind : count + length (known table items) ≡ length items
   once_settled : is_some (settled items) ≡ true → count ≡ 0
 
-are_waiting : (items : List Item) (s : Option (Option Widths)) (told : List Item) (kept : List Kept) (count : ℕ) → Standing items s told (items_kept kept) → count ≡ length kept → AreWaiting items count
-are_waiting items s told kept count h is =
-    let long : length (items_kept kept) ≡ length kept = length-map kept item_kept in
-    let known_are : known items ≡ told = ap (λ (x : Option (Option Widths)). known_by x items) h.settled_is ∙ standing_known items s told (items_kept kept) h in
+are_waiting : (table : Table) (items : List Item) (s : Option (Option Widths)) (told : List Item) (kept : List Kept) (count : ℕ) → Standing table items s told (items_kept kept) → count ≡ length kept → AreWaiting table items count
+are_waiting table items s told kept count h is =
+    let long : length (items_kept kept) ≡ length kept = length-map kept (λ (one : Kept). one.item) in
+    let known_are : known table items ≡ told = ap (λ (x : Option (Option Widths)). known_by table x items) h.settled_is ∙ standing_known table items s told (items_kept kept) h in
     let all : length items ≡ length told + length (items_kept kept) = ap (λ (l : List Item). length l) h.in_order ∙ length-append told (items_kept kept) in
     record {
       behind = omega (arith, is, long, all, ap (λ (l : List Item). length l) known_are);
@@ -113,12 +112,12 @@ are_waiting items s told kept count h is =
 
 -- ---- a judge
 
-pub is_held : (judge : Judge) (pieces : List Line) (held : Held) → HasHeard judge pieces → told_fault pieces ≡ None → held.debugger_bytes ≡ length judge.debugger.bytes.items → held.target_bytes ≡ length judge.target.bytes.items
-    → held.messages ≡ length judge.rulings.kept.items → held.commands ≡ count_in judge.rulings.asked → IsHeld pieces held
-is_held judge pieces held h none d t m w =
+pub is_held : (table : Table) (judge : Judge) (pieces : List Line) (held : Held) → HasHeardUnder table judge pieces → told_fault_under table pieces ≡ None → held.debugger_bytes ≡ length judge.debugger.bytes.items → held.target_bytes ≡ length judge.target.bytes.items
+    → held.messages ≡ length (kept_in judge.rulings.kept) → held.commands ≡ count_in judge.rulings.asked → IsHeld table pieces held
+is_held table judge pieces held h none d t m w =
     let quiet : judge.rulings.fault ≡ None = h.follows.fault ∙ none in
     let u = h.follows.under_way quiet in
-    let waiting = are_waiting (items_of pieces) judge.rulings.sizes u.front judge.rulings.kept.items held.messages u.standing m in
+    let waiting = are_waiting table (items_of pieces) judge.rulings.sizes u.front (kept_in judge.rulings.kept) held.messages u.standing m in
     let counted = u.counted in
     record {
       debugger_bytes = is_rest Debugger pieces judge.debugger held.debugger_bytes (h.coming quiet Debugger) d;

@@ -2,8 +2,11 @@ pub mod SameLaws
 pub mod ToldLaws
 pub mod AskingLaws
 pub mod TellingLaws
+pub mod BacklogLaws
 pub mod HearingLaws
 pub mod ComingLaws
 pub mod SessionLaws
 pub mod HeldLaws
-pub mod WordLaws
+pub mod CaptureLaws
+pub mod LineJudgeLaws
+pub mod CaptureJudgeLaws

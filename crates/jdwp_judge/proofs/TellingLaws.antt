@@ -1,116 +1,127 @@
 -- Messages told one by one.
-use Rattle.std.proofs.Common.{◌≡◌, ℕ, ◌+◌, ◌<◌, ◌≤◌, List, [], ◌∷◌, ◌++◌, length, map, take, drop, get_or, true, Option, Some, None, is_some, option_map, refl, sym, ap, subst, ◌∙◌, append_assoc, append-nil}
+use Rattle.std.proofs.Common.{◌≡◌, ℕ, Bool, List, [], ◌∷◌, ◌++◌, true, Option, Some, None, is_some, option_map, refl, sym, ap, subst, ◌∙◌, append_assoc, append-nil}
 use Rattle.std.specs.Option.{option_or}
-use Rattle.std.proofs.lemmas.List.{map-append, take-append-drop, take_all, take_more, drop_more}
-use Rattle.jdwp_wire.specs.Widths.{Widths}
+use Rattle.std.proofs.lemmas.List.{map-append}
 use Rattle.jdwp_show.specs.declared.capture_fault.CaptureFault.{CaptureFault}
-use Rattle.jdwp_show.specs.declared.pending.CommandNumber.{CommandNumber}
+use Rattle.jdwp_show.specs.declared.command_number.CommandNumber.{CommandNumber}
+use Rattle.jdwp_show.specs.declared.terms.Terms.{Terms}
+use Rattle.jdwp_show.specs.declared.transcript.Transcript.{Transcript}
 use Rattle.jdwp_show.specs.CaptureLines.{lines_after}
 use Rattle.jdwp_show.specs.Items.{Item}
 use Rattle.jdwp_show.specs.MessageLines.{found_line}
-use Rattle.jdwp_show.specs.Rules.{data_fault, waiting_for}
+use Rattle.jdwp_show.specs.Rules.{order_fault, data_fault, waiting_for}
 use Rattle.jdwp_show.specs.Sessions.{first_after, unanswered, fault_answer}
-use Rattle.jdwp_judge.specs.declared.kept.Kept.{Kept}
-use Rattle.jdwp_judge.specs.Heard.{thing, item_kept, items_kept, IsKept, AreKept, fault_kept}
+use Rattle.jdwp_show.specs.Transcripts.{Tells}
+use Rattle.jdwp_show.proofs.TextLemmas.{grows_none, grows_as, joined}
+use Rattle.jdwp_judge.specs.Heard.{Kept, items_kept, IsLooked, IsKept, AreKept, fault_by, line_unless, line_by}
 use Rattle.jdwp_judge.specs.Standing.{IsTold, lines_behind, fault_behind}
-use Rattle.jdwp_judge.proofs.ToldLaws.{first_more, first_one, unanswered_here, lines-append, told_more, told_all}
+use Rattle.jdwp_judge.proofs.ToldLaws.{first_more, first_one, first_stops, unanswered_here, told_more, told_all, told_stops}
 
 -- ---- what is kept
+
+abbrev item_kept : Kept → Item
+item_kept kept = kept.item
 
 pub items_kept-append : (xs ys : List Kept) → items_kept (xs ++ ys) ≡ items_kept xs ++ items_kept ys
 items_kept-append xs ys = map-append item_kept xs ys
 
-pub AreKept-at : (before : List Item) (xs : List Kept) (one : Kept) (ys : List Kept) → AreKept before (xs ++ one ∷ ys) → IsKept (before ++ items_kept xs) one
+AreKept-at : (before : List Item) (xs : List Kept) (one : Kept) (ys : List Kept) → AreKept before (xs ++ one ∷ ys) → IsKept (before ++ items_kept xs) one
 AreKept-at before [] one ys h = subst (λ (b : List Item). IsKept b one) (sym (append-nil before)) h.0
-AreKept-at before (x ∷ xs) one ys h = subst (λ (b : List Item). IsKept b one) (append_assoc before (item_kept x ∷ []) (items_kept xs)) (AreKept-at (before ++ item_kept x ∷ []) xs one ys h.1)
+AreKept-at before (x ∷ xs) one ys h = subst (λ (b : List Item). IsKept b one) (append_assoc before (x.item ∷ []) (items_kept xs)) (AreKept-at (before ++ x.item ∷ []) xs one ys h.1)
 
 pub AreKept-push : (before : List Item) (xs : List Kept) (one : Kept) → AreKept before xs → IsKept (before ++ items_kept xs) one → AreKept before (xs ++ one ∷ [])
 AreKept-push before [] one h k = (subst (λ (b : List Item). IsKept b one) (append-nil before) k, tt)
-AreKept-push before (x ∷ xs) one h k = (h.0, AreKept-push (before ++ item_kept x ∷ []) xs one h.1 (subst (λ (b : List Item). IsKept b one) (sym (append_assoc before (item_kept x ∷ []) (items_kept xs))) k))
+AreKept-push before (x ∷ xs) one h k = (h.0, AreKept-push (before ++ x.item ∷ []) xs one h.1 (subst (λ (b : List Item). IsKept b one) (sym (append_assoc before (x.item ∷ []) (items_kept xs))) k))
 
--- the fault and the line of a message by what is kept with it
-pub kept_fault : (w : Option Widths) (before : List Item) (one : Kept) → IsKept before one → fault_answer w before (item_kept one) ≡ fault_kept w one
-kept_fault w before one k =
-    ap (λ (o : Option CaptureFault). option_map {U = ℕ × CaptureFault} (λ f. (one.heard.piece, f)) (option_or o (data_fault w (waiting_for before (thing one.heard.found)) one.heard.sender (thing one.heard.found)))) (sym k.order)
-    ∙ ap (λ (x : Option CommandNumber). option_map {U = ℕ × CaptureFault} (λ f. (one.heard.piece, f)) (option_or one.order (data_fault w x one.heard.sender (thing one.heard.found)))) (sym k.waits)
+-- the fault and the line of a message by what those before it say
+pub looked_fault : (w : Terms) (before : List Item) (x : Item) (begun : Bool) (waits : Option CommandNumber) → IsLooked before x.found begun waits → fault_answer w before x ≡ fault_by w begun waits x
+looked_fault w before x begun waits h =
+    ap (λ (b : Bool). option_map {U = ℕ × CaptureFault} (λ f. (x.line, f)) (option_or (order_fault b (waiting_for before x.found) x.sender x.found) (data_fault w (waiting_for before x.found) x.sender x.found))) (sym h.begun_is)
+    ∙ ap (λ (c : Option CommandNumber). option_map {U = ℕ × CaptureFault} (λ f. (x.line, f)) (option_or (order_fault begun c x.sender x.found) (data_fault w c x.sender x.found))) (sym h.waits_is)
 
-pub kept_line : (w : Option Widths) (before : List Item) (one : Kept) → IsKept before one → found_line w one.waits one.heard.sender (thing one.heard.found) ≡ found_line w (waiting_for before (thing one.heard.found)) one.heard.sender (thing one.heard.found)
-kept_line w before one k = ap (λ (x : Option CommandNumber). found_line w x one.heard.sender (thing one.heard.found)) k.waits
+looked_line : (w : Terms) (before : List Item) (x : Item) (begun : Bool) (waits : Option CommandNumber) → IsLooked before x.found begun waits → found_line w waits x.sender x.found ≡ found_line w (waiting_for before x.found) x.sender x.found
+looked_line w before x begun waits h = ap (λ (c : Option CommandNumber). found_line w c x.sender x.found) h.waits_is
+
+-- ---- one message more
+
+pub told_none : (w : Terms) (before : List Item) (lines : Transcript) → IsTold w before [] None lines lines
+unfolding first_after unanswered lines_after
+told_none w before lines = record { lines = grows_none lines.lines; fault_is = refl }
+
+pub told_empty : (w : Terms) (before : List Item) (kept : List Kept) (fault : Option (ℕ × CaptureFault)) (lines : Transcript) → kept ≡ [] → fault ≡ None → IsTold w before (items_kept kept) fault lines lines
+told_empty w before kept fault lines empty none = rw (empty, none) (told_none w before lines)
+
+-- nothing is told behind a fault
+pub told_stopped : (w : Terms) (before xs ys : List Item) (p : ℕ × CaptureFault) (old new : Transcript) → IsTold w before xs (Some p) old new → IsTold w before (xs ++ ys) (Some p) old new
+told_stopped w before xs ys p old new h = record {
+  lines = grows_as (sym (told_stops w before xs ys p (sym h.fault_is))) h.lines;
+  fault_is = sym (first_stops (fault_answer w) before xs ys p (sym h.fault_is));
+}
+
+line_one : (w : Terms) (before : List Item) (x : Item) → fault_answer w before x ≡ None → lines_behind w before (x ∷ []) ≡ found_line w (waiting_for before x.found) x.sender x.found
+unfolding unanswered lines_after
+line_one w before x none = rw none (append-nil (found_line w (waiting_for before x.found) x.sender x.found))
+
+none_one : (w : Terms) (before : List Item) (x : Item) (p : ℕ × CaptureFault) → fault_answer w before x ≡ Some p → lines_behind w before (x ∷ []) ≡ []
+unfolding lines_after
+none_one w before x p some = ap (λ (l : List Item). lines_after w before l) (unanswered_here (fault_answer w) before x [] p some)
+
+one_line : (w : Terms) (before : List Item) (x : Item) (begun : Bool) (waits : Option CommandNumber) (fault : Option (ℕ × CaptureFault)) → IsLooked before x.found begun waits → fault_answer w before x ≡ fault
+    → lines_behind w before (x ∷ []) ≡ line_unless fault (found_line w waits x.sender x.found)
+one_line w before x begun waits None h is = line_one w before x is ∙ sym (looked_line w before x begun waits h)
+one_line w before x begun waits (Some p) h is = none_one w before x p is
+
+pub told_one : (w : Terms) (before xs : List Item) (x : Item) (begun : Bool) (waits : Option CommandNumber) (fault : Option (ℕ × CaptureFault)) (old mid new : Transcript) → IsTold w before xs None old mid → IsLooked (before ++ xs) x.found begun waits
+    → fault ≡ fault_by w begun waits x → Tells mid (line_by w begun waits x) new → IsTold w before (xs ++ x ∷ []) fault old new
+told_one w before xs x begun waits fault old mid new t h is line =
+    let none : fault_behind w before xs ≡ None = sym t.fault_is in
+    let answer = looked_fault w (before ++ xs) x begun waits h in
+    let behind : lines_behind w (before ++ xs) (x ∷ []) ≡ line_by w begun waits x = one_line w (before ++ xs) x begun waits (fault_by w begun waits x) h answer in
+    let all : lines_behind w before (xs ++ x ∷ []) ≡ lines_behind w before xs ++ line_by w begun waits x =
+    told_more w before xs (x ∷ []) none ∙ ap (λ (l : List ℕ). l ++ lines_behind w (before ++ xs) (x ∷ [])) (sym (told_all w before xs none)) ∙ ap (λ (l : List ℕ). lines_behind w before xs ++ l) behind in
+    record {
+      lines = grows_as (sym all) (joined t.lines line);
+      fault_is = is ∙ sym (first_more (fault_answer w) before xs (x ∷ []) none ∙ first_one (fault_answer w) (before ++ xs) x ∙ answer);
+    }
 
 -- ---- the loop
 
--- so many are told, and none of them breaks a rule
-pub record ToldSome (w : Option Widths) (before : List Item) (some : List Kept) (old new : List ℕ) : Type 0 where
-  pub none : fault_behind w before (items_kept some) ≡ None
-  pub lines : new ≡ old ++ lines_after w before (items_kept some)
+-- those before these of all are told, and none of them breaks a rule
+pub record Telling (w : Terms) (all left : List Kept) (old new : Transcript) : Type 0 where
+  pub done : List Kept
+  pub all_are : all ≡ done ++ left
+  pub told : (before : List Item) → AreKept before all → IsTold w before (items_kept done) None old new
 
-abbrev pub Telling : Option Widths → List Kept → ℕ → List ℕ → List ℕ → Type 0
-Telling w kept i old new = (before : List Item) → AreKept before kept → ToldSome w before (take i kept) old new
+pub telling_none : (w : Terms) (all : List Kept) (old : Transcript) → Telling w all all old old
+telling_none w all old = record { done = []; all_are = refl; told = λ before are. told_none w before old }
 
-told_none : (w : Option Widths) (before : List Item) (old : List ℕ) → ToldSome w before [] old old
-unfolding first_after lines_after
-told_none w before old = record { none = refl; lines = sym (append-nil old) }
+-- one more is told, with its fault
+told_next : (w : Terms) (all : List Kept) (one : Kept) (left : List Kept) (fault : Option (ℕ × CaptureFault)) (old mid new : Transcript) (h : Telling w all (one ∷ left) old mid) → fault ≡ fault_by w one.begun one.waits one.item
+    → Tells mid (line_by w one.begun one.waits one.item) new → (before : List Item) → AreKept before all → IsTold w before (items_kept (h.done ++ one ∷ [])) fault old new
+told_next w all one left fault old mid new h is line before are =
+    let k = AreKept-at before h.done one left (subst (λ (l : List Kept). AreKept before l) h.all_are are) in
+    subst (λ (l : List Item). IsTold w before l fault old new) (sym (items_kept-append h.done (one ∷ []))) (told_one w before (items_kept h.done) one.item one.begun one.waits fault old mid new (h.told before are) k is line)
 
-pub telling_none : (w : Option Widths) (kept : List Kept) (old : List ℕ) → Telling w kept 0 old old
-telling_none w kept old = λ before are. told_none w before old
-
-split : (kept : List Kept) (i : ℕ) (one : Kept) → i < length kept → one ≡ get_or kept i one → kept ≡ take i kept ++ one ∷ drop (i + 1) kept
-split kept i one inside is =
-    sym (take-append-drop i kept) ∙ ap (λ (l : List Kept). take i kept ++ l) (drop_more kept i one inside ∙ ap (λ (k : Kept). k ∷ drop (i + 1) kept) (sym is))
-
-line_one : (w : Option Widths) (before : List Item) (x : Item) → lines_after w before (x ∷ []) ≡ found_line w (waiting_for before x.found) x.sender x.found
-unfolding lines_after
-line_one w before x = append-nil (found_line w (waiting_for before x.found) x.sender x.found)
-
-told_one : (w : Option Widths) (before : List Item) (some : List Kept) (one : Kept) (old mid new line : List ℕ) → ToldSome w before some old mid → IsKept (before ++ items_kept some) one → None ≡ fault_kept w one
-    → line ≡ found_line w one.waits one.heard.sender (thing one.heard.found) → new ≡ mid ++ line → ToldSome w before (some ++ one ∷ []) old new
-told_one w before some one old mid new line h k none is appended =
-    let items = items_kept-append some (one ∷ []) in
-    let x = item_kept one in
+pub telling_more : (w : Terms) (all : List Kept) (one : Kept) (left : List Kept) (x : Item) (fault : Option (ℕ × CaptureFault)) (old mid new : Transcript) → Telling w all (one ∷ left) old mid → x ≡ one.item → fault ≡ fault_by w one.begun one.waits x
+    → Tells mid (line_by w one.begun one.waits x) new → fault ≡ None → Telling w all left old new
+telling_more w all one left x fault old mid new h item is line none =
+    let is_one = is ∙ ap (λ (y : Item). fault_by w one.begun one.waits y) item in
+    let line_one = subst (λ (y : Item). Tells mid (line_by w one.begun one.waits y) new) item line in
     record {
-      none = ap (λ (l : List Item). fault_behind w before l) items ∙ first_more (fault_answer w) before (items_kept some) (x ∷ []) h.none
-          ∙ first_one (fault_answer w) (before ++ items_kept some) x ∙ kept_fault w (before ++ items_kept some) one k ∙ sym none;
-      lines = appended ∙ ap (λ (l : List ℕ). l ++ line) h.lines ∙ append_assoc old (lines_after w before (items_kept some)) line
-          ∙ ap (λ (l : List ℕ). old ++ (lines_after w before (items_kept some) ++ l)) (is ∙ kept_line w (before ++ items_kept some) one k ∙ sym (line_one w (before ++ items_kept some) x))
-          ∙ ap (λ (l : List ℕ). old ++ l) (sym (lines-append w before (items_kept some) (x ∷ [])))
-          ∙ ap (λ (l : List Item). old ++ lines_after w before l) (sym items);
+      done = h.done ++ one ∷ [];
+      all_are = h.all_are ∙ sym (append_assoc h.done (one ∷ []) left);
+      told = λ before are. subst (λ (o : Option (ℕ × CaptureFault)). IsTold w before (items_kept (h.done ++ one ∷ [])) o old new) none (told_next w all one left fault old mid new h is_one line_one before are);
     }
 
-pub telling_more : (w : Option Widths) (kept : List Kept) (i : ℕ) (one : Kept) (old mid new line : List ℕ) → i < length kept → one ≡ get_or kept i one → Telling w kept i old mid → None ≡ fault_kept w one
-    → line ≡ found_line w one.waits one.heard.sender (thing one.heard.found) → new ≡ mid ++ line → Telling w kept (i + 1) old new
-telling_more w kept i one old mid new line inside at h none is appended = λ before are.
-    let more : take (i + 1) kept ≡ take i kept ++ one ∷ [] = take_more kept i one inside ∙ ap (λ (k : Kept). take i kept ++ k ∷ []) (sym at) in
-    let k = AreKept-at before (take i kept) one (drop (i + 1) kept) (subst (λ (l : List Kept). AreKept before l) (split kept i one inside at) are) in
-    subst (λ (l : List Kept). ToldSome w before l old new) (sym more) (told_one w before (take i kept) one old mid new line (h before are) k none is appended)
+stops_at : (w : Terms) (all : List Kept) (one : Kept) (left : List Kept) (fault : Option (ℕ × CaptureFault)) (old mid new : Transcript) → Telling w all (one ∷ left) old mid → fault ≡ fault_by w one.begun one.waits one.item → Tells mid (line_by w one.begun one.waits one.item) new
+    → is_some fault ≡ true → (before : List Item) → AreKept before all → IsTold w before (items_kept all) fault old new
+stops_at w all one left None old mid new h is line some before are = absurd cc
+stops_at w all one left (Some p) old mid new h is line some before are =
+    let parts : items_kept (h.done ++ one ∷ []) ++ items_kept left ≡ items_kept all =
+    sym (items_kept-append (h.done ++ one ∷ []) left) ∙ ap (λ (l : List Kept). items_kept l) (append_assoc h.done (one ∷ []) left ∙ sym h.all_are) in
+    subst (λ (l : List Item). IsTold w before l (Some p) old new) parts (told_stopped w before (items_kept (h.done ++ one ∷ [])) (items_kept left) p old new (told_next w all one left (Some p) old mid new h is line before are))
 
-told_up_to : (w : Option Widths) (before : List Item) (some : List Kept) (one : Kept) (more : List Kept) (p : ℕ × CaptureFault) (old new : List ℕ) → ToldSome w before some old new → IsKept (before ++ items_kept some) one → Some p ≡ fault_kept w one
-    → IsTold w before (items_kept (some ++ one ∷ more)) (Some p) old new
-unfolding first_after lines_after
-told_up_to w before some one more p old new h k broken =
-    let items = items_kept-append some (one ∷ more) in
-    let x = item_kept one in
-    let here : fault_answer w (before ++ items_kept some) x ≡ Some p = kept_fault w (before ++ items_kept some) one k ∙ sym broken in
-    let fault : first_after (fault_answer w) (before ++ items_kept some) (x ∷ items_kept more) ≡ Some p = rw here refl in
-    record {
-      lines = h.lines ∙ ap (λ (l : List ℕ). old ++ l) (sym (append-nil (lines_after w before (items_kept some)))
-          ∙ ap (λ (l : List Item). lines_after w before (items_kept some) ++ lines_after w (before ++ items_kept some) l) (sym (unanswered_here (fault_answer w) (before ++ items_kept some) x (items_kept more) p here))
-          ∙ sym (told_more w before (items_kept some) (x ∷ items_kept more) h.none) ∙ ap (λ (l : List Item). lines_behind w before l) (sym items));
-      fault_is = sym (ap (λ (l : List Item). fault_behind w before l) items ∙ first_more (fault_answer w) before (items_kept some) (x ∷ items_kept more) h.none ∙ fault);
-    }
-
-pub telling_broken : (w : Option Widths) (kept : List Kept) (i : ℕ) (one : Kept) (p : ℕ × CaptureFault) (old new : List ℕ) → i < length kept → one ≡ get_or kept i one → Telling w kept i old new → Some p ≡ fault_kept w one
-    → (before : List Item) → AreKept before kept → IsTold w before (items_kept kept) (Some p) old new
-telling_broken w kept i one p old new inside at h broken before are =
-    let parts = split kept i one inside at in
-    let k = AreKept-at before (take i kept) one (drop (i + 1) kept) (subst (λ (l : List Kept). AreKept before l) parts are) in
-    subst (λ (l : List Kept). IsTold w before (items_kept l) (Some p) old new) (sym parts) (told_up_to w before (take i kept) one (drop (i + 1) kept) p old new (h before are) k broken)
-
-pub telling_stops : (w : Option Widths) (kept : List Kept) (i : ℕ) (one : Kept) (fault : Option (ℕ × CaptureFault)) (old new : List ℕ) → i < length kept → one ≡ get_or kept i one → Telling w kept i old new → fault ≡ fault_kept w one → is_some fault ≡ true
-    → (before : List Item) → AreKept before kept → IsTold w before (items_kept kept) fault old new
-telling_stops w kept i one None old new inside at h broken some = absurd cc
-telling_stops w kept i one (Some p) old new inside at h broken some = telling_broken w kept i one p old new inside at h broken
-
-pub telling_end : (w : Option Widths) (kept : List Kept) (i : ℕ) (old new : List ℕ) → length kept ≤ i → Telling w kept i old new → (before : List Item) → AreKept before kept → IsTold w before (items_kept kept) None old new
-telling_end w kept i old new past h before are =
-    let t = subst (λ (l : List Kept). ToldSome w before l old new) (take_all i kept past) (h before are) in
-    record { lines = t.lines ∙ ap (λ (l : List ℕ). old ++ l) (sym (told_all w before (items_kept kept) t.none)); fault_is = sym t.none }
+pub telling_stops : (w : Terms) (all : List Kept) (one : Kept) (left : List Kept) (x : Item) (fault : Option (ℕ × CaptureFault)) (old mid new : Transcript) → Telling w all (one ∷ left) old mid → x ≡ one.item → fault ≡ fault_by w one.begun one.waits x
+    → Tells mid (line_by w one.begun one.waits x) new → is_some fault ≡ true → (before : List Item) → AreKept before all → IsTold w before (items_kept all) fault old new
+telling_stops w all one left x fault old mid new h item is line some =
+    stops_at w all one left fault old mid new h (is ∙ ap (λ (y : Item). fault_by w one.begun one.waits y) item) (subst (λ (y : Item). Tells mid (line_by w one.begun one.waits y) new) item line) some

@@ -1,11 +1,12 @@
 -- Commands that ask for a reply, and the replies to them.
-use Rattle.std.specs.Prelude.{ℕ, List, Bool, true, false}
+use Rattle.std.specs.Prelude.{ℕ, List, Bool, true, false, Option, is_some}
 use Rattle.std.specs.List.{count_by}
 use Rattle.jdwp_wire.specs.declared.packet.PacketKind.{PacketKind}
 use Rattle.jdwp_wire.specs.declared.packet.PacketKind.TheVariants as kind
 use Rattle.jdwp_wire.specs.Streams.{Handshake, Packet}
 use Rattle.jdwp_show.specs.declared.capture_line.Sender.{Sender}
 use Rattle.jdwp_show.specs.declared.capture_line.Sender.TheVariants.{Debugger, Target}
+use Rattle.jdwp_show.specs.declared.command_number.CommandNumber.{CommandNumber}
 use Rattle.jdwp_show.specs.Found.{Found, Sent, Faulty}
 use Rattle.jdwp_show.specs.Items.{Item}
 
@@ -39,3 +40,7 @@ count_asked items = count_by (λ item. asks item.sender item.found) items
 
 abbrev pub count_answered : List Item → ℕ
 count_answered items = count_by (λ item. answers item.sender item.found) items
+
+-- how many commands wait in a row
+abbrev pub some_in : List (Option CommandNumber) → ℕ
+some_in row = count_by is_some row

@@ -12,7 +12,7 @@ use Rattle.jdwp_show.specs.Items.{Item}
 -- what is found behind it, where these bytes follow it; nothing follows a fault
 abbrev pub found_behind : declared.Found → List ℕ → List Found
 found_behind here.Handshake bytes = found_after true bytes
-found_behind (here.Packet header body) bytes = found_after true bytes
+found_behind (here.Packet packet) bytes = found_after true bytes
 found_behind (here.Fault fault) bytes = []
 
 -- so many bytes in front are this, or nothing is whole there

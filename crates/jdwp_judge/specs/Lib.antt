@@ -1,8 +1,11 @@
 pub mod Told
 pub mod Asking
 pub mod Heard
+pub mod Entries
 pub mod Standing
 pub mod Coming
 pub mod Hearing
 pub mod Held
 pub mod Judges
+pub mod LineJudges
+pub mod CaptureJudges

@@ -2,21 +2,20 @@
 ghost use Rattle.std.specs.Prelude.{◌≡◌, ◌+◌, ℕ, IfOk, OnOk, None, false};
 
 use crate::heard::{Found, Heard};
+use crate::waiting::Waiting;
 use jdwp_show::{CommandNumber, Sender};
 use jdwp_wire::{NoMemory, PacketKind};
 use std::alloc::Global;
-use std::collections::BTreeMap;
 
 /// What the items so far say: whether the debugger's handshake is among them, and which commands wait under which ids.
-/// Only commands that wait are kept, and they are ordered, so that no choice of ids makes looking them up slow.
 #[derive(Drop)]
 pub(crate) struct Asked {
     begun: bool,
-    commands: BTreeMap<u32, CommandNumber>,
+    commands: Waiting,
 }
 
 impl Asked {
-    ghost use Rattle.jdwp_judge.specs.Heard.{thing};
+    ghost use Rattle.jdwp_judge.specs.Heard.{thing, item_of};
     ghost use Rattle.jdwp_judge.specs.Standing.{waits_in, count_in, more_by, fewer_by, IsAfter};
     ghost use Rattle.jdwp_show.specs.Rules.{under};
 
@@ -27,7 +26,7 @@ impl Asked {
     {
         Asked {
             begun: false,
-            commands: BTreeMap::new(alloc),
+            commands: Waiting::new(alloc),
         }
     }
 
@@ -42,19 +41,20 @@ impl Asked {
     pub(crate) fn count(&self) -> usize
         ensures { result ≡ count_in self.now }
     {
-        self.commands.len()
+        self.commands.count()
     }
 
     /// One item more. Answers the command that waited under its id before.
+    #[inline(always)]
     pub(crate) fn record(&mut self, item: &Heard) -> Result<Option<CommandNumber>, NoMemory>
         ensures waits { IfOk result (λ waits. waits ≡ under (waits_in self.old)
             (thing item.now.found)) }
-        ensures after { OnOk result (IsAfter self.old item.now self.new) }
+        ensures after { OnOk result (IsAfter self.old (item_of item.now) self.new) }
         ensures counted { IfOk result (λ waits. count_in self.new + fewer_by waits item.now.sender
             (thing item.now.found) ≡ count_in self.old + more_by waits item.now.sender
             (thing item.now.found)) }
     {
-        match &item.found {
+        match item.found {
             Found::Fault(_) => Ok(None),
             Found::Handshake => {
                 match item.sender {
@@ -63,18 +63,16 @@ impl Asked {
                 }
                 Ok(None)
             }
-            Found::Packet(header, _) => {
-                let id = header.id;
-                match header.kind {
+            Found::Packet(packet) => {
+                let id = packet.header.id;
+                match packet.header.kind {
                     PacketKind::Command { set, number } => match item.sender {
-                        Sender::Debugger => {
-                            Ok(self.commands.insert(id, CommandNumber { set, number })?)
-                        }
-                        Sender::Target => Ok(self.commands.get(&id).copied()),
+                        Sender::Debugger => self.commands.insert(id, CommandNumber { set, number }),
+                        Sender::Target => Ok(self.commands.get(id)),
                     },
                     PacketKind::Reply { error: _ } => match item.sender {
-                        Sender::Debugger => Ok(self.commands.get(&id).copied()),
-                        Sender::Target => Ok(self.commands.remove(&id)),
+                        Sender::Debugger => Ok(self.commands.get(id)),
+                        Sender::Target => Ok(self.commands.remove(id)),
                     },
                 }
             }

@@ -1,5 +1,5 @@
 //! What an end sent that belongs to no message yet.
-ghost use Rattle.std.specs.Prelude.{◌≡◌, ◌≤◌, ◌++◌, [], length, drop, IfOk, OnOk, false, true};
+ghost use Rattle.std.specs.Prelude.{◌≡◌, ◌≤◌, ◌++◌, [], length, drop, OnOk, false, true};
 
 use crate::front::{next_hello_found, next_packet_found};
 use crate::heard::Found;
@@ -42,20 +42,16 @@ impl Coming {
     }
 
     /// What stands behind so many bytes, if it is whole or shows a fault, and how many bytes it takes.
-    pub(crate) fn next_found(
-        &self,
-        alloc: Global,
-        taken: usize,
-    ) -> Result<Option<(Found, usize)>, NoMemory>
+    #[inline(always)]
+    pub(crate) fn next_found(&self, taken: usize) -> Option<(Found<'_>, usize)>
         requires { taken ≤ length self.now.bytes.items }
-        ensures { IfOk result (λ next. IsNext self.now.handshaken
-            (drop taken self.now.bytes.items) next) }
+        ensures { IsNext self.now.handshaken (drop taken self.now.bytes.items) result }
     {
         let waiting = &self.bytes[taken..];
         if self.handshaken {
-            next_packet_found(alloc, waiting)
+            next_packet_found(waiting)
         } else {
-            Ok(next_hello_found(waiting))
+            next_hello_found(waiting)
         }
     }
 
@@ -73,6 +69,10 @@ impl Coming {
         ensures bytes { self.new.bytes.items ≡ drop taken self.old.bytes.items }
         ensures handshaken { self.new.handshaken ≡ self.old.handshaken }
     {
-        self.bytes.drain(..taken);
+        if taken == self.bytes.len() {
+            self.bytes.clear();
+        } else {
+            self.bytes.drain(..taken);
+        }
     }
 }

@@ -1,13 +1,12 @@
 //! What stands at the front of bytes.
-ghost use Rattle.std.specs.Prelude.{IfOk, false, true};
+ghost use Rattle.std.specs.Prelude.{false, true};
 ghost use Rattle.jdwp_judge.specs.Coming.{IsNext};
 
 use crate::heard::Found;
-use jdwp_wire::{HANDSHAKE, Next, NextHello, NoMemory, next_hello, next_packet};
-use std::alloc::Global;
+use jdwp_wire::{HANDSHAKE, Next, NextHello, next_hello, next_packet};
 
 /// The handshake, if it stands in front, and how many bytes it takes.
-pub(crate) fn next_hello_found(waiting: &[u8]) -> Option<(Found, usize)>
+pub(crate) fn next_hello_found(waiting: &[u8]) -> Option<(Found<'_>, usize)>
     ensures { IsNext false waiting.now result }
 {
     match next_hello(waiting) {
@@ -18,18 +17,13 @@ pub(crate) fn next_hello_found(waiting: &[u8]) -> Option<(Found, usize)>
 }
 
 /// The packet that stands in front, and how many bytes it takes.
-pub(crate) fn next_packet_found(
-    alloc: Global,
-    waiting: &[u8],
-) -> Result<Option<(Found, usize)>, NoMemory>
-    ensures { IfOk result (λ next. IsNext true waiting.now next) }
+#[inline(always)]
+pub(crate) fn next_packet_found(waiting: &[u8]) -> Option<(Found<'_>, usize)>
+    ensures { IsNext true waiting.now result }
 {
     match next_packet(waiting) {
-        Next::More => Ok(None),
-        Next::Fault(fault) => Ok(Some((Found::Fault(fault), 0))),
-        Next::Whole(packet, used) => {
-            let body = Vec::from_slice(alloc, packet.body)?;
-            Ok(Some((Found::Packet(packet.header, body), used)))
-        }
+        Next::More => None,
+        Next::Fault(fault) => Some((Found::Fault(fault), 0)),
+        Next::Whole(packet, used) => Some((Found::Packet(packet), used)),
     }
 }

@@ -1,20 +1,20 @@
 //! Messages as they are heard.
 use jdwp_show::Sender;
-use jdwp_wire::{FrameFault, Header};
+use jdwp_wire::{FrameFault, PacketRef};
 
 /// A message of an end, or the frame fault behind its messages.
-#[derive(Drop)]
-pub(crate) enum Found {
+#[derive(Clone, Copy)]
+pub(crate) enum Found<'a> {
     Handshake,
-    Packet(Header, Vec<u8>),
+    Packet(PacketRef<'a>),
     Fault(FrameFault),
 }
 
 /// What was found, and where.
-#[derive(Drop)]
-pub(crate) struct Heard {
+#[derive(Clone, Copy)]
+pub(crate) struct Heard<'a> {
     /// The number, from 1, of the piece in which its last byte stands.
     pub(crate) piece: usize,
     pub(crate) sender: Sender,
-    pub(crate) found: Found,
+    pub(crate) found: Found<'a>,
 }

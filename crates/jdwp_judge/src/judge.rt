@@ -1,16 +1,17 @@
 //! Sessions judged as they go on.
-ghost use Rattle.std.specs.Prelude.{◌≡◌, ◌++◌, ◌∷◌, [], List, None, IfOk};
+ghost use Rattle.std.specs.Prelude.{◌≡◌, ◌++◌, ◌∷◌, [], List, None, IfOk, OnOk};
 ghost use Rattle.std.specs.String.{string_bytes};
 ghost use Rattle.jdwp_judge.specs.Held.{IsHeld};
-ghost use Rattle.jdwp_judge.specs.Told.{told, told_fault, whole, whole_fault};
+ghost use Rattle.jdwp_judge.specs.Told.{told_under, told_fault_under, whole_under, whole_fault_under};
 ghost use Rattle.jdwp_show.specs.Lines.{Line};
+ghost use Rattle.jdwp_show.specs.Sessions.{bad_or_broken};
+ghost use Rattle.jdwp_show.specs.Transcripts.{Tells};
 
 use crate::coming::Coming;
 use crate::hearing::hear_all;
 use crate::held::Held;
 use crate::rulings::Rulings;
-use crate::words::more_line;
-use jdwp_show::{CaptureFault, Sender, Shown};
+use jdwp_show::{CaptureFault, Sender, Shown, Table, Transcript};
 use jdwp_wire::NoMemory;
 use std::alloc::Global;
 
@@ -34,18 +35,26 @@ pub struct Judge {
 }
 
 impl Judge {
-    ghost use Rattle.jdwp_judge.specs.Judges.{HasHeard};
+    ghost use Rattle.jdwp_judge.specs.Judges.{HasHeard, HasHeardUnder, HasHeardPieceUnder, HasFinishedUnder};
+    ghost use Rattle.jdwp_show.specs.declared.table.Table.{Table};
 
-    /// Before the first piece of a session.
+    /// Before the first piece of a session. Data are read by the standard's table.
     pub fn new(alloc: Global) -> Judge
         ensures { HasHeard result [] }
+    {
+        Judge::under(alloc, Table::Standard)
+    }
+
+    /// The same where data are read by this table.
+    pub fn under(alloc: Global, table: Table) -> Judge
+        ensures { HasHeardUnder table result [] }
     {
         Judge {
             alloc,
             pieces: 0,
             debugger: Coming::new(alloc),
             target: Coming::new(alloc),
-            rulings: Rulings::new(alloc),
+            rulings: Rulings::new(alloc, table),
         }
     }
 
@@ -55,40 +64,52 @@ impl Judge {
     /// `NoMemory` where an allocation was refused, or at the 2^64th piece; the judge is then of no use any more.
     pub fn feed(&mut self, sender: Sender, bytes: &[u8]) -> Result<String, NoMemory>
         // It has heard one piece more.
-        ensures heard { (pieces : List Line) → HasHeard self.old pieces → IfOk result (λ lines.
-            HasHeard self.new (pieces ++ record { sender = sender; bytes = bytes.now } ∷ [])) }
+        ensures heard { (table : Table) (pieces : List Line) → HasHeardUnder table self.old pieces
+            → IfOk result (λ lines. HasHeardUnder table self.new (pieces ++ record { sender = sender; bytes = bytes.now } ∷ [])) }
         // What it told before and these lines are what can be told of the whole so far, and no less.
-        ensures told { (pieces : List Line) → HasHeard self.old pieces → IfOk result (λ lines.
-            told pieces ++ string_bytes lines
-            ≡ told (pieces ++ record { sender = sender; bytes = bytes.now } ∷ [])) }
+        ensures told { (table : Table) (pieces : List Line) → HasHeardUnder table self.old pieces
+            → IfOk result (λ lines. told_under table pieces ++ string_bytes lines
+            ≡ told_under table (pieces ++ record { sender = sender; bytes = bytes.now } ∷ [])) }
+    {
+        let mut lines = Transcript::new(self.alloc);
+        self.hear(sender, bytes, &mut lines)?;
+        lines.into_string()
+    }
+
+    /// One piece more, these bytes of this end. Appends the lines that can be told now.
+    pub(crate) fn hear(
+        &mut self,
+        sender: Sender,
+        bytes: &[u8],
+        lines: &mut Transcript,
+    ) -> Result<(), NoMemory>
+        ensures { (table : Table) (pieces : List Line) → HasHeardUnder table self.old pieces → OnOk
+            result (HasHeardPieceUnder table self.new pieces (record { sender = sender; bytes = bytes.now }) lines.old lines.new) }
     {
         let Some(pieces) = self.pieces.checked_add(1) else {
             return Err(NoMemory);
         };
         self.pieces = pieces;
-        let alloc = self.alloc;
-        let mut lines = String::new(alloc);
         if self.rulings.fault().is_some() {
-            return Ok(lines);
+            return Ok(());
         }
         let rulings = &mut self.rulings;
         match sender {
             Sender::Debugger => {
                 let coming = &mut self.debugger;
-                hear_all(alloc, coming, rulings, pieces, sender, bytes, &mut lines)?;
-                Ok(lines)
+                hear_all(coming, rulings, pieces, sender, bytes, lines)
             }
             Sender::Target => {
                 let coming = &mut self.target;
-                hear_all(alloc, coming, rulings, pieces, sender, bytes, &mut lines)?;
-                Ok(lines)
+                hear_all(coming, rulings, pieces, sender, bytes, lines)
             }
         }
     }
 
     /// The first fault, and the number, from 1, of the piece in which its last byte stands, as soon as it can be told.
     pub fn fault(&self) -> Option<(usize, CaptureFault)>
-        ensures { (pieces : List Line) → HasHeard self.now pieces → result ≡ told_fault pieces }
+        ensures { (table : Table) (pieces : List Line) → HasHeardUnder table self.now pieces → result
+            ≡ told_fault_under table pieces }
     {
         self.rulings.fault()
     }
@@ -96,8 +117,8 @@ impl Judge {
     /// How much it keeps of the session so far, as long as no fault is told: the bytes of each end that belong to no whole message, fewer
     /// than 65,536; the messages whose lines wait, none once the widths of ids are sure; the commands that have no reply yet.
     pub fn held(&self) -> Held
-        ensures { (pieces : List Line) → HasHeard self.now pieces → told_fault pieces ≡ None
-            → IsHeld pieces result }
+        ensures { (table : Table) (pieces : List Line) → HasHeardUnder table self.now pieces
+            → told_fault_under table pieces ≡ None → IsHeld table pieces result }
     {
         Held {
             debugger_bytes: self.debugger.left_over(),
@@ -114,30 +135,47 @@ impl Judge {
     /// `NoMemory` where an allocation was refused.
     pub fn end(self) -> Result<Shown, NoMemory>
         // What it told before and these lines are what `show` says of a capture with these pieces as its lines.
-        ensures lines { (pieces : List Line) → HasHeard self pieces → IfOk result (λ shown.
-            told pieces ++ string_bytes shown.lines ≡ whole pieces) }
+        ensures lines { (table : Table) (pieces : List Line) → HasHeardUnder table self pieces → IfOk
+            result (λ shown. told_under table pieces ++ string_bytes shown.lines ≡ whole_under table
+            pieces) }
         // So is the fault.
-        ensures fault { (pieces : List Line) → HasHeard self pieces → IfOk result (λ shown.
-            shown.fault ≡ whole_fault pieces) }
+        ensures fault { (table : Table) (pieces : List Line) → HasHeardUnder table self pieces → IfOk
+            result (λ shown. shown.fault ≡ whole_fault_under table pieces) }
+    {
+        let mut lines = Transcript::new(self.alloc);
+        let fault = self.finish(None, &mut lines);
+        let lines = lines.into_string()?;
+        Ok(Shown { lines, fault })
+    }
+
+    /// The session has ended, or with it the lines of a capture that read, and this is the number of the line that does not. Answers the
+    /// first fault, and appends the lines that waited, and how many bytes of each end belong to no whole message where there is no fault.
+    pub(crate) fn finish(
+        self,
+        bad_line: Option<usize>,
+        lines: &mut Transcript,
+    ) -> Option<(usize, CaptureFault)>
+        ensures { (table : Table) (pieces : List Line) → HasHeardUnder table self pieces
+            → HasFinishedUnder table pieces bad_line result lines.old lines.new }
     {
         let Judge {
-            alloc,
+            alloc: _,
             pieces: _,
             debugger,
             target,
             rulings,
         } = self;
         let mut rulings = rulings;
-        let mut lines = String::new(alloc);
-        rulings.end(&mut lines)?;
+        rulings.end(lines);
+        if let Some(line) = bad_line {
+            return Some((line, CaptureFault::BadLine));
+        }
         let fault = rulings.fault();
         if fault.is_some() {
-            return Ok(Shown { lines, fault });
+            return fault;
         }
-        let left = more_line(alloc, Sender::Debugger, debugger.left_over())?;
-        lines.push_str(left.as_str())?;
-        let left = more_line(alloc, Sender::Target, target.left_over())?;
-        lines.push_str(left.as_str())?;
-        Ok(Shown { lines, fault })
+        lines.push_more(Sender::Debugger, debugger.left_over());
+        lines.push_more(Sender::Target, target.left_over());
+        None
     }
 }

@@ -1,5 +1,6 @@
 //! The rules of a session, and which of them an item breaks.
 ghost use Rattle.std.specs.Prelude.{◌≡◌, Some};
+ghost use Rattle.std.specs.Option.{option_or};
 ghost use Rattle.jdwp_layout.specs.Shapes.{shape};
 ghost use Rattle.jdwp_show.specs.Data as laws;
 ghost use Rattle.jdwp_show.specs.Rules as rules;
@@ -11,30 +12,44 @@ ghost use Rattle.jdwp_judge.specs.Told as told;
 use crate::heard::{Found, Heard};
 use byteorder::{BigEndian, ByteOrder};
 use jdwp_layout::numbers::{COMPOSITE, EVENT, ID_SIZES, VIRTUAL_MACHINE};
-use jdwp_layout::{Layout, layout_of, validate};
-use jdwp_show::{CaptureFault, CommandNumber, Sender};
+use jdwp_layout::{Layout, validate};
+use jdwp_show::{CaptureFault, CommandNumber, Sender, Table, Terms};
 use jdwp_wire::{DataFault, ErrorCode, IdSizes, PacketKind};
 
-/// The rule of frames, ends or ids that the item breaks.
+/// The rule that an item breaks, where data are read so: that of data is the last to be looked at.
 ///
 /// Whether the debugger's handshake was before it, and which command waits under its id, are given.
-pub(crate) fn order_fault(
+#[inline(always)]
+pub(crate) fn item_fault(
+    terms: Terms,
     begun: bool,
     waits: Option<CommandNumber>,
     item: &Heard,
 ) -> Option<CaptureFault>
+    ensures { result ≡ option_or (rules.order_fault begun waits item.now.sender
+        (thing item.now.found)) (rules.data_fault terms waits item.now.sender
+        (thing item.now.found)) }
+{
+    match order_fault(begun, waits, item) {
+        Some(fault) => Some(fault),
+        None => data_fault(terms, waits, item),
+    }
+}
+
+/// The rule of frames, ends or ids that the item breaks.
+fn order_fault(begun: bool, waits: Option<CommandNumber>, item: &Heard) -> Option<CaptureFault>
     ensures { result ≡ rules.order_fault begun waits item.now.sender (thing item.now.found) }
 {
-    match &item.found {
-        Found::Fault(fault) => Some(CaptureFault::Frame(*fault)),
+    match item.found {
+        Found::Fault(fault) => Some(CaptureFault::Frame(fault)),
         Found::Handshake => match item.sender {
             Sender::Debugger => None,
             Sender::Target if begun => None,
             Sender::Target => Some(CaptureFault::WrongWay),
         },
-        Found::Packet(header, _) => match item.sender {
-            Sender::Debugger => command_fault(waits, header.kind),
-            Sender::Target => target_fault(waits, header.kind),
+        Found::Packet(packet) => match item.sender {
+            Sender::Debugger => command_fault(waits, packet.header.kind),
+            Sender::Target => target_fault(waits, packet.header.kind),
         },
     }
 }
@@ -77,66 +92,61 @@ fn target_fault(waits: Option<CommandNumber>, kind: PacketKind) -> Option<Captur
     }
 }
 
-/// The rule of data that the item breaks, under these widths of ids.
-pub(crate) fn data_fault(
-    sizes: Option<IdSizes>,
-    waits: Option<CommandNumber>,
-    item: &Heard,
-) -> Option<CaptureFault>
-    ensures { result ≡ rules.data_fault sizes waits item.now.sender (thing item.now.found) }
+/// The rule of data that the item breaks, where they are read so.
+fn data_fault(terms: Terms, waits: Option<CommandNumber>, item: &Heard) -> Option<CaptureFault>
+    ensures { result ≡ rules.data_fault terms waits item.now.sender (thing item.now.found) }
 {
-    let Found::Packet(header, body) = &item.found else {
+    let Found::Packet(packet) = item.found else {
         return None;
     };
-    match header.kind {
+    match packet.header.kind {
         PacketKind::Command { set, number } => {
-            request_fault(sizes, CommandNumber { set, number }, body).map(CaptureFault::BadData)
+            request_fault(terms, CommandNumber { set, number }, packet.body).map(
+                CaptureFault::BadData,
+            )
         }
         PacketKind::Reply { error } => match item.sender {
             Sender::Debugger => None,
             Sender::Target if error == ErrorCode::NONE => {
-                reply_fault(sizes, waits, body).map(CaptureFault::BadData)
+                reply_fault(terms, waits, packet.body).map(CaptureFault::BadData)
             }
-            Sender::Target if body.is_empty() => None,
+            Sender::Target if packet.body.is_empty() => None,
             Sender::Target => Some(CaptureFault::ErrorWithData),
         },
     }
 }
 
-fn request_fault(sizes: Option<IdSizes>, command: CommandNumber, body: &[u8]) -> Option<DataFault>
-    ensures { result ≡ laws.request_fault sizes command body.now }
+fn request_fault(terms: Terms, command: CommandNumber, body: &[u8]) -> Option<DataFault>
+    ensures { result ≡ laws.request_fault terms command body.now }
 {
-    let row = layout_of(command.set, command.number)?;
+    let sizes = terms.sizes?;
+    let row = terms.table.row(command.set, command.number)?;
     match row.layouts {
         None => None,
-        Some(layouts) => layout_fault(sizes, &layouts.request, body),
+        Some(layouts) => layout_fault(&sizes, &layouts.request, body),
     }
 }
 
-fn reply_fault(
-    sizes: Option<IdSizes>,
-    waits: Option<CommandNumber>,
-    body: &[u8],
-) -> Option<DataFault>
-    ensures { result ≡ laws.reply_fault sizes waits body.now }
+fn reply_fault(terms: Terms, waits: Option<CommandNumber>, body: &[u8]) -> Option<DataFault>
+    ensures { result ≡ laws.reply_fault terms waits body.now }
 {
     let command = waits?;
     if is_id_sizes(command) {
         return widths_in(body).err();
     }
-    let row = layout_of(command.set, command.number)?;
+    let sizes = terms.sizes?;
+    let row = terms.table.row(command.set, command.number)?;
     match row.layouts {
         None => None,
-        Some(layouts) => layout_fault(sizes, &layouts.reply, body),
+        Some(layouts) => layout_fault(&sizes, &layouts.reply, body),
     }
 }
 
-/// The first fault of data under a layout; None where the widths are not known.
-fn layout_fault(sizes: Option<IdSizes>, layout: &Layout, body: &[u8]) -> Option<DataFault>
-    ensures { result ≡ laws.layout_fault sizes (shape layout.now) body.now }
+/// The first fault of data under a layout.
+fn layout_fault(sizes: &IdSizes, layout: &Layout, body: &[u8]) -> Option<DataFault>
+    ensures { result ≡ laws.layout_fault (Some sizes.now) (shape layout.now) body.now }
 {
-    let sizes = sizes?;
-    match validate(layout, &sizes, body) {
+    match validate(layout, sizes, body) {
         Ok(()) => None,
         Err(fault) => Some(fault),
     }
@@ -149,13 +159,13 @@ fn is_id_sizes(command: CommandNumber) -> bool
 }
 
 /// The widths of ids that the item tells, if it is a reply without an error to VirtualMachine.IDSizes whose data read.
-pub(crate) fn told(waits: Option<CommandNumber>, item: &Heard) -> Option<IdSizes>
+fn told(waits: Option<CommandNumber>, item: &Heard) -> Option<IdSizes>
     ensures { result ≡ sessions.told_widths waits item.now.sender (thing item.now.found) }
 {
-    let Found::Packet(header, body) = &item.found else {
+    let Found::Packet(packet) = item.found else {
         return None;
     };
-    let PacketKind::Reply { error } = header.kind else {
+    let PacketKind::Reply { error } = packet.header.kind else {
         return None;
     };
     match item.sender {
@@ -165,7 +175,7 @@ pub(crate) fn told(waits: Option<CommandNumber>, item: &Heard) -> Option<IdSizes
                 return None;
             }
             match waits {
-                Some(command) if is_id_sizes(command) => widths_in(body).ok(),
+                Some(command) if is_id_sizes(command) => widths_in(packet.body).ok(),
                 _ => None,
             }
         }
@@ -193,16 +203,17 @@ fn widths_in(body: &[u8]) -> Result<IdSizes, DataFault>
     }
 }
 
-/// Which widths of ids hold, if this item makes that sure, by the rule of frames, ends or ids that it breaks.
+/// Which widths of ids hold, if this item makes that sure: it tells them, or breaks a rule of frames, ends or ids.
 pub(crate) fn widths_by(
-    order: Option<CaptureFault>,
+    begun: bool,
     waits: Option<CommandNumber>,
     item: &Heard,
 ) -> Option<Option<IdSizes>>
-    ensures { result ≡ sessions.told_or_ended order
-        (sessions.told_widths waits item.now.sender (thing item.now.found)) }
+    ensures { result ≡ sessions.told_or_ended (rules.order_fault begun waits item.now.sender
+        (thing item.now.found)) (sessions.told_widths waits item.now.sender
+        (thing item.now.found)) }
 {
-    if order.is_some() {
+    if order_fault(begun, waits, item).is_some() {
         return Some(None);
     }
     match told(waits, item) {
@@ -212,31 +223,33 @@ pub(crate) fn widths_by(
 }
 
 /// Whether the line of an item, or its fault, is another by the widths of ids.
-pub(crate) fn wants_widths(waits: Option<CommandNumber>, item: &Heard) -> bool
-    ensures { result ≡ told.wants_widths waits (thing item.now.found) }
+pub(crate) fn wants_widths(table: Table, waits: Option<CommandNumber>, item: &Heard) -> bool
+    ensures { result ≡ told.wants_widths table waits (thing item.now.found) }
 {
-    let Found::Packet(header, body) = &item.found else {
+    let Found::Packet(packet) = item.found else {
         return false;
     };
-    match header.kind {
-        PacketKind::Command { set, number } => has_request(CommandNumber { set, number }, body),
+    match packet.header.kind {
+        PacketKind::Command { set, number } => {
+            has_request(table, CommandNumber { set, number }, packet.body)
+        }
         PacketKind::Reply { error } => {
             if error != ErrorCode::NONE {
                 return false;
             }
             match waits {
                 None => false,
-                Some(command) => !is_id_sizes(command) && has_reply(command, body),
+                Some(command) => !is_id_sizes(command) && has_reply(table, command, packet.body),
             }
         }
     }
 }
 
 /// Whether the data of a command are shown by a layout, where widths are told.
-fn has_request(command: CommandNumber, body: &[u8]) -> bool
-    ensures { result ≡ told.has_layout (request_in (laws.shapes_of command)) body.now }
+fn has_request(table: Table, command: CommandNumber, body: &[u8]) -> bool
+    ensures { result ≡ told.has_layout (request_in (laws.shapes_under table command)) body.now }
 {
-    let Some(row) = layout_of(command.set, command.number) else {
+    let Some(row) = table.row(command.set, command.number) else {
         return false;
     };
     match row.layouts {
@@ -246,10 +259,10 @@ fn has_request(command: CommandNumber, body: &[u8]) -> bool
 }
 
 /// Whether the data of a reply without an error are shown by a layout, where widths are told.
-fn has_reply(command: CommandNumber, body: &[u8]) -> bool
-    ensures { result ≡ told.has_layout (reply_in (laws.shapes_of command)) body.now }
+fn has_reply(table: Table, command: CommandNumber, body: &[u8]) -> bool
+    ensures { result ≡ told.has_layout (reply_in (laws.shapes_under table command)) body.now }
 {
-    let Some(row) = layout_of(command.set, command.number) else {
+    let Some(row) = table.row(command.set, command.number) else {
         return false;
     };
     match row.layouts {

@@ -1,49 +1,47 @@
-//! Messages as lines, up to the first that breaks a rule.
-ghost use Rattle.std.specs.Prelude.{◌≡◌, List, IfOk};
-ghost use Rattle.std.specs.String.{string_bytes};
-ghost use Rattle.jdwp_judge.specs.Heard.{items_kept, AreKept, fault_kept};
-ghost use Rattle.jdwp_judge.specs.Standing.{IsTold};
-ghost use Rattle.jdwp_show.specs.Items.{Item};
+//! Messages as lines.
+ghost use Rattle.std.specs.Prelude.{◌≡◌};
+ghost use Rattle.jdwp_judge.specs.Heard.{item_of, fault_by, line_by, thing};
+ghost use Rattle.jdwp_show.specs.MessageLines.{found_line};
+ghost use Rattle.jdwp_show.specs.Rules.{Holds};
+ghost use Rattle.jdwp_show.specs.Transcripts.{Tells};
 
-use crate::kept::Kept;
-use crate::rules::data_fault;
-use crate::words::message_line;
-use jdwp_show::CaptureFault;
-use jdwp_wire::{IdSizes, NoMemory};
-use std::alloc::Global;
+use crate::heard::{Found, Heard};
+use crate::rules::item_fault;
+use jdwp_show::{CaptureFault, CommandNumber, Terms, Transcript};
 
-/// Appends the lines of messages under these widths, up to the first that breaks a rule. Answers its fault, and the piece in which its last byte
-/// stands.
-pub(crate) fn tell_all(
-    alloc: Global,
-    sizes: &Option<IdSizes>,
-    kept: &[Kept],
-    lines: &mut String,
-) -> Result<Option<(usize, CaptureFault)>, NoMemory>
-    ensures { (before : List Item) → AreKept before kept.now → IfOk result (λ fault. IsTold sizes.now
-        before (items_kept kept.now) fault (string_bytes lines.old) (string_bytes lines.new)) }
+/// Appends the line of a message, if it breaks no rule where data are read so. Answers its fault, and the piece in which its last byte stands.
+///
+/// Whether the debugger's handshake was before it, and which command waits under its id, are given.
+#[inline(always)]
+pub(crate) fn tell(
+    terms: &Terms,
+    begun: bool,
+    waits: Option<CommandNumber>,
+    heard: &Heard,
+    lines: &mut Transcript,
+) -> Option<(usize, CaptureFault)>
+    ensures fault { result ≡ fault_by terms.now begun waits (item_of heard.now) }
+    ensures line { Tells lines.old (line_by terms.now begun waits (item_of heard.now)) lines.new }
 {
-    for one in kept {
-        let fault = fault_of(sizes, one);
-        if fault.is_some() {
-            return Ok(fault);
+    match item_fault(*terms, begun, waits, heard) {
+        Some(fault) => Some((heard.piece, fault)),
+        None => {
+            show(terms, waits, heard, lines);
+            None
         }
-        let line = message_line(alloc, *sizes, one.waits, &one.heard)?;
-        lines.push_str(line.as_str())?;
     }
-    Ok(None)
 }
 
-/// The rule that a message breaks, and the piece in which its last byte stands.
-fn fault_of(sizes: &Option<IdSizes>, kept: &Kept) -> Option<(usize, CaptureFault)>
-    ensures { result ≡ fault_kept sizes.now kept.now }
+/// Appends the line of a message that breaks no rule; a frame fault has none.
+#[inline(always)]
+fn show(terms: &Terms, waits: Option<CommandNumber>, heard: &Heard, lines: &mut Transcript)
+    requires { Holds terms.now waits heard.now.sender (thing heard.now.found) }
+    ensures { Tells lines.old (found_line terms.now waits heard.now.sender (thing heard.now.found))
+        lines.new }
 {
-    let piece = kept.heard.piece;
-    match kept.order {
-        Some(fault) => Some((piece, fault)),
-        None => match data_fault(*sizes, kept.waits, &kept.heard) {
-            Some(fault) => Some((piece, fault)),
-            None => None,
-        },
+    match heard.found {
+        Found::Fault(_) => {}
+        Found::Handshake => lines.push_hello(heard.sender),
+        Found::Packet(packet) => lines.push_packet(*terms, waits, heard.sender, &packet),
     }
 }

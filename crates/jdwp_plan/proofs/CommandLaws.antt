@@ -9,7 +9,7 @@ use Rattle.std.proofs.lemmas.List.Sums.{passes_at_first}
 use Rattle.std.proofs.lemmas.Slice.Eq.{bytes_eq-Decides}
 use Rattle.jdwp_layout.specs.CommandTable.{command_sets, row_at}
 use Rattle.jdwp_layout.specs.Rows.{Row, look_up, row_in}
-use Rattle.jdwp_show.specs.declared.pending.CommandNumber.{CommandNumber}
+use Rattle.jdwp_show.specs.declared.command_number.CommandNumber.{CommandNumber}
 use Rattle.jdwp_show.specs.MessageLines.{name_in}
 use Rattle.jdwp_plan.specs.Commands.{HasNo, HasNoneBelow, IsOfNone, is_command}
 use Rattle.jdwp_plan.specs.Cuts.{behind, front, has}

@@ -7,12 +7,8 @@ pub mod FoundLaws
 pub mod DataLaws
 pub mod ItemLaws
 pub mod StandingLaws
-pub mod StreamLemmas
-pub mod TextLineLemmas
-pub mod WalkLemmas
-pub mod JudgingLemmas
 pub mod WaitingLaws
 pub mod WidthsLaws
-pub mod CaptureLineLemmas
 pub mod SessionLaws
 pub mod SoundLemmas
+pub mod TableLaws

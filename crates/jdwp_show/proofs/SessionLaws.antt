@@ -8,14 +8,15 @@ use Rattle.std.proofs.lemmas.Bool.Decides.{nat_tests}
 use Rattle.std.proofs.lemmas.List.{append-nil, length-append}
 use Rattle.std.proofs.lemmas.Option.{same_Some}
 use Rattle.std.proofs.lemmas.List.Sums.{take_while-cons}
-use Rattle.jdwp_wire.specs.Widths.{Widths}
 use Rattle.jdwp_show.specs.declared.capture_fault.CaptureFault.{CaptureFault}
 use Rattle.jdwp_show.specs.declared.capture_fault.CaptureFault.TheVariants.{BadLine}
-use Rattle.jdwp_show.specs.declared.checking.Verdict.TheVariants.{Yes, No}
+use Rattle.jdwp_show.specs.declared.verdict.Verdict.TheVariants.{Yes, No}
+use Rattle.jdwp_show.specs.declared.table.Table.{Table}
+use Rattle.jdwp_show.specs.declared.terms.Terms.{Terms}
 use Rattle.jdwp_show.specs.Items.{Item}
 use Rattle.jdwp_show.specs.Lines.{Line, line_of, reads, lines_that_read, bad_line}
 use Rattle.jdwp_show.specs.Rules.{fault_of}
-use Rattle.jdwp_show.specs.Sessions.{first_after, first_answer, widths_of, items_in, NoneBreaks, BeginsSession, IsBadLine, IsBroken, IsFirstFault, fault_answer, broken_in, first_fault, verdict_by, verdict}
+use Rattle.jdwp_show.specs.Sessions.{first_after, first_answer, terms_of, items_in, NoneBreaks, BeginsSessionUnder, IsBadLine, IsBroken, IsFirstFaultUnder, fault_answer, broken_in, first_fault_under, verdict_by, verdict_under}
 
 -- ---- the first answer
 
@@ -108,24 +109,24 @@ none_from : (o : Option Line) → is_some o ≡ false → o ≡ None
 none_from None e = refl
 none_from (Some l) e = cc
 
-answer_none : (w : Option Widths) (before : List Item) (item : Item) → fault_answer w before item ≡ None → fault_of w before item ≡ None
+answer_none : (w : Terms) (before : List Item) (item : Item) → fault_answer w before item ≡ None → fault_of w before item ≡ None
 answer_none w before item e = mapped_none (fault_of w before item) item.line e
 
-answer_some : (w : Option Widths) (before : List Item) (item : Item) (line : ℕ) (fault : CaptureFault) → fault_answer w before item ≡ Some (line, fault) → (fault_of w before item ≡ Some fault) × (line ≡ item.line)
+answer_some : (w : Terms) (before : List Item) (item : Item) (line : ℕ) (fault : CaptureFault) → fault_answer w before item ≡ Some (line, fault) → (fault_of w before item ≡ Some fault) × (line ≡ item.line)
 answer_some w before item line fault e = mapped_some (fault_of w before item) item.line line fault e
 
-none_answer : (w : Option Widths) (before : List Item) (item : Item) → fault_of w before item ≡ None → fault_answer w before item ≡ None
+none_answer : (w : Terms) (before : List Item) (item : Item) → fault_of w before item ≡ None → fault_answer w before item ≡ None
 none_answer w before item e = ap (λ (x : Option CaptureFault). option_map {U = ℕ × CaptureFault} (λ f. (item.line, f)) x) e
 
-none_breaks : (text : List ℕ) (items : List Item) → first_answer (fault_answer (widths_of (items_in text))) items ≡ None → NoneBreaks text items
-none_breaks text items e = λ before item after split. answer_none (widths_of (items_in text)) before item (none_at (fault_answer (widths_of (items_in text))) items before item after e split)
+none_breaks : (table : Table) (text : List ℕ) (items : List Item) → first_answer (fault_answer (terms_of table (items_in text))) items ≡ None → NoneBreaks table text items
+none_breaks table text items e = λ before item after split. answer_none (terms_of table (items_in text)) before item (none_at (fault_answer (terms_of table (items_in text))) items before item after e split)
 
-no_answer : (text : List ℕ) (items : List Item) → NoneBreaks text items → first_answer (fault_answer (widths_of (items_in text))) items ≡ None
-no_answer text items h = none_after (fault_answer (widths_of (items_in text))) [] items (λ before item after split. none_answer (widths_of (items_in text)) before item (h before item after split))
+no_answer : (table : Table) (text : List ℕ) (items : List Item) → NoneBreaks table text items → first_answer (fault_answer (terms_of table (items_in text))) items ≡ None
+no_answer table text items h = none_after (fault_answer (terms_of table (items_in text))) [] items (λ before item after split. none_answer (terms_of table (items_in text)) before item (h before item after split))
 
-broken_is : (text : List ℕ) (line : ℕ) (fault : CaptureFault) → AllPass reads (lines text) → broken_in (items_in text) ≡ Some (line, fault) → IsBroken text line fault
-broken_is text line fault read e =
-    let w = widths_of (items_in text) in
+broken_is : (table : Table) (text : List ℕ) (line : ℕ) (fault : CaptureFault) → AllPass reads (lines text) → broken_in table (items_in text) ≡ Some (line, fault) → IsBroken table text line fault
+broken_is table text line fault read e =
+    let w = terms_of table (items_in text) in
     let a = answered_from (fault_answer w) [] (items_in text) (line, fault) e in
     let b = answer_some w a.before a.item line fault a.answers in
     record {
@@ -134,15 +135,15 @@ broken_is text line fault read e =
       item = a.item;
       after = a.after;
       in_items = a.in_items;
-      earlier_hold = none_breaks text a.before a.none_earlier;
+      earlier_hold = none_breaks table text a.before a.none_earlier;
       breaks = b.0;
       number_is = b.1;
     }
 
-is_broken : (text : List ℕ) (line : ℕ) (fault : CaptureFault) → IsBroken text line fault → broken_in (items_in text) ≡ Some (line, fault)
-is_broken text line fault h =
-    let w = widths_of (items_in text) in
-    let none = no_answer text h.before h.earlier_hold in
+is_broken : (table : Table) (text : List ℕ) (line : ℕ) (fault : CaptureFault) → IsBroken table text line fault → broken_in table (items_in text) ≡ Some (line, fault)
+is_broken table text line fault h =
+    let w = terms_of table (items_in text) in
+    let none = no_answer table text h.before h.earlier_hold in
     let here : fault_answer w h.before h.item ≡ Some (line, fault) =
     ap (λ (x : Option CaptureFault). option_map {U = ℕ × CaptureFault} (λ f. (h.item.line, f)) x) h.breaks ∙ ap (λ (n : ℕ). Some (n, fault)) (sym h.number_is) in
     first_at (fault_answer w) (items_in text) h.before h.item h.after h.in_items ∙ rw (none, here) refl
@@ -226,29 +227,29 @@ pub no_some : (o : Option (ℕ × CaptureFault)) (line : ℕ) (fault : CaptureFa
 no_some None line fault e = cc
 no_some (Some (n, f)) line fault e = let a : n ≡ line = cc in let b : f ≡ fault = cc in rw (a, b) refl
 
-begins_by : (text : List ℕ) → Lined text → verdict text ≡ Yes → BeginsSession text
-begins_by text (each_reads pass none) e =
-    let all = yes_none (first_fault text) e in
-    record { lines_read = pass; none_breaks = none_breaks text (items_in text) (rw none at all) }
-begins_by text (one_does_not number bad some) e = let all = yes_none (first_fault text) e in absurd (let none = rw some at all in cc)
+begins_by : (table : Table) (text : List ℕ) → Lined text → verdict_under table text ≡ Yes → BeginsSessionUnder table text
+begins_by table text (each_reads pass none) e =
+    let all = yes_none (first_fault_under table text) e in
+    record { lines_read = pass; none_breaks = none_breaks table text (items_in text) (rw none at all) }
+begins_by table text (one_does_not number bad some) e = let all = yes_none (first_fault_under table text) e in absurd (let none = rw some at all in cc)
 
-pub begins_from_yes : (text : List ℕ) → verdict text ≡ Yes → BeginsSession text
-begins_from_yes text e = begins_by text (lined text) e
+pub begins_from_yes : (table : Table) (text : List ℕ) → verdict_under table text ≡ Yes → BeginsSessionUnder table text
+begins_from_yes table text e = begins_by table text (lined text) e
 
-pub yes_from_begins : (text : List ℕ) → BeginsSession text → verdict text ≡ Yes
-yes_from_begins text h = let lines_read = no_bad text h.lines_read in let none = no_answer text (items_in text) h.none_breaks in rw (lines_read, none) refl
+pub yes_from_begins : (table : Table) (text : List ℕ) → BeginsSessionUnder table text → verdict_under table text ≡ Yes
+yes_from_begins table text h = let lines_read = no_bad text h.lines_read in let none = no_answer table text (items_in text) h.none_breaks in rw (lines_read, none) refl
 
-fault_by : (text : List ℕ) (line : ℕ) (fault : CaptureFault) → Lined text → first_fault text ≡ Some (line, fault) → IsFirstFault text line fault
-fault_by text line fault (each_reads pass none) e = inr (broken_is text line fault pass (rw none at e))
-fault_by text line fault (one_does_not number bad some) e =
+fault_by : (table : Table) (text : List ℕ) (line : ℕ) (fault : CaptureFault) → Lined text → first_fault_under table text ≡ Some (line, fault) → IsFirstFaultUnder table text line fault
+fault_by table text line fault (each_reads pass none) e = inr (broken_is table text line fault pass (rw none at e))
+fault_by table text line fault (one_does_not number bad some) e =
     let same = same_Some {A = ℕ × CaptureFault} (number, BadLine) (line, fault) (rw some at e) in
     let at : number ≡ line = ap (λ (p : ℕ × CaptureFault). p.0) same in
     let is : fault ≡ BadLine = sym (ap (λ (p : ℕ × CaptureFault). p.1) same) in
     inl (is, subst (λ (n : ℕ). IsBadLine text n) at bad)
 
-pub fault_from_no : (text : List ℕ) (line : ℕ) (fault : CaptureFault) → verdict text ≡ No line fault → IsFirstFault text line fault
-fault_from_no text line fault e = fault_by text line fault (lined text) (no_some (first_fault text) line fault e)
+pub fault_from_no : (table : Table) (text : List ℕ) (line : ℕ) (fault : CaptureFault) → verdict_under table text ≡ No line fault → IsFirstFaultUnder table text line fault
+fault_from_no table text line fault e = fault_by table text line fault (lined text) (no_some (first_fault_under table text) line fault e)
 
-pub no_from_fault : (text : List ℕ) (line : ℕ) (fault : CaptureFault) → IsFirstFault text line fault → verdict text ≡ No line fault
-no_from_fault text line fault (inl (is, bad)) = let some = bad_line_is text line bad in rw (some, is) refl
-no_from_fault text line fault (inr broken) = let none = no_bad text broken.lines_read in let some = is_broken text line fault broken in rw (none, some) refl
+pub no_from_fault : (table : Table) (text : List ℕ) (line : ℕ) (fault : CaptureFault) → IsFirstFaultUnder table text line fault → verdict_under table text ≡ No line fault
+no_from_fault table text line fault (inl (is, bad)) = let some = bad_line_is text line bad in rw (some, is) refl
+no_from_fault table text line fault (inr broken) = let none = no_bad text broken.lines_read in let some = is_broken table text line fault broken in rw (none, some) refl

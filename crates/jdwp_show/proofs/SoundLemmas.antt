@@ -18,13 +18,15 @@ use Rattle.jdwp_show.specs.declared.capture_fault.CaptureFault.{CaptureFault}
 use Rattle.jdwp_show.specs.declared.capture_fault.CaptureFault.TheVariants.{BadData}
 use Rattle.jdwp_show.specs.declared.capture_line.Sender.{Sender}
 use Rattle.jdwp_show.specs.declared.capture_line.Sender.TheVariants.{Debugger, Target}
-use Rattle.jdwp_show.specs.declared.pending.CommandNumber.{CommandNumber}
+use Rattle.jdwp_show.specs.declared.command_number.CommandNumber.{CommandNumber}
+use Rattle.jdwp_show.specs.declared.table.Table.{Table}
+use Rattle.jdwp_show.specs.declared.table.Table.TheVariants.{Standard, Jdi}
+use Rattle.jdwp_show.specs.declared.terms.Terms.{Terms}
 use Rattle.jdwp_layout.specs.CommandNumbers.{ID_SIZES}
-use Rattle.jdwp_show.specs.Data.{shapes_of, fault_in, request_by, reply_by, is_id_sizes, widths_in, widths_by, reply_fault}
+use Rattle.jdwp_show.specs.Data.{shapes_of, shapes_under, fault_in, request_by, reply_by, is_id_sizes, widths_in, widths_by, reply_fault}
 use Rattle.jdwp_show.specs.Found.{Sent}
 use Rattle.jdwp_show.specs.MessageLines.{body_fault, request_in, reply_in}
-use Rattle.jdwp_show.specs.Pending.{Holds}
-use Rattle.jdwp_show.specs.Rules.{command_fault, packet_data_fault}
+use Rattle.jdwp_show.specs.Rules.{command_fault, packet_data_fault, Holds}
 use Rattle.jdwp_show.proofs.DataLaws.{told_by_layout}
 
 second_none : (x y : Option CaptureFault) → option_or x y ≡ None → y ≡ None
@@ -41,12 +43,12 @@ request_sound : (w : Option Widths) (shapes : Option RowShapes) (body : List ℕ
 request_sound w None body e = refl
 request_sound w (Some shapes) body e = e
 
-pub command_sound : (w : Option Widths) (waits : Option CommandNumber) (sender : Sender) (header : Header) (body : List ℕ) (set number : ℕ) → Holds w waits sender (Sent (Packet header body)) → header.kind ≡ kind.Command set number
-    → body_fault w (request_in (shapes_of (record { set = set; number = number }))) body ≡ None
+pub command_sound : (w : Terms) (waits : Option CommandNumber) (sender : Sender) (header : Header) (body : List ℕ) (set number : ℕ) → Holds w waits sender (Sent (Packet header body)) → header.kind ≡ kind.Command set number
+    → body_fault w.sizes (request_in (shapes_under w.table (record { set = set; number = number }))) body ≡ None
 command_sound w waits sender header body set number h is =
     let none : packet_data_fault w waits sender header.kind body ≡ None = second_none _ _ h.none_broken in
     let e : packet_data_fault w waits sender (kind.Command set number) body ≡ None = ap (λ (k : PacketKind). packet_data_fault w waits sender k body) (sym is) ∙ none in
-    request_sound w (shapes_of (record { set = set; number = number })) body (unmapped _ e)
+    request_sound w.sizes (shapes_under w.table (record { set = set; number = number })) body (unmapped _ e)
 
 -- ---- replies
 
@@ -70,35 +72,40 @@ id_sizes command e =
     let number : command.number ≡ ID_SIZES.number = grind (arith, nat_tests) in
     λ i. record { set = set i; number = number i }
 
-answer_sound : (w : Option Widths) (command : CommandNumber) (body : List ℕ) → reply_fault w (Some command) body ≡ None → body_fault w (reply_in (shapes_of command)) body ≡ None
+-- the layout of IDSizes is the same in each table
+same_sizes : (table : Table) → shapes_of (record { set = ID_SIZES.set; number = ID_SIZES.number }) ≡ shapes_under table (record { set = ID_SIZES.set; number = ID_SIZES.number })
+same_sizes Standard = refl
+same_sizes Jdi = refl
+
+answer_sound : (w : Terms) (command : CommandNumber) (body : List ℕ) → reply_fault w (Some command) body ≡ None → body_fault w.sizes (reply_in (shapes_under w.table command)) body ≡ None
 answer_sound w command body none =
     elim (cases_Bool (is_id_sizes command)) [
       | inl widths ↦
           let is = id_sizes command widths in
-          let e : fault_in (widths_in body) ≡ None = ap (λ (b : Bool). cond b (fault_in (widths_in body)) (reply_by w (shapes_of command) body)) (sym widths) ∙ none in
-          rw is (widths_sound w _ body refl e)
+          let e : fault_in (widths_in body) ≡ None = ap (λ (b : Bool). cond b (fault_in (widths_in body)) (reply_by w.sizes (shapes_under w.table command) body)) (sym widths) ∙ none in
+          rw is (widths_sound w.sizes _ body (same_sizes w.table) e)
       | inr other ↦
-          let e : reply_by w (shapes_of command) body ≡ None = ap (λ (b : Bool). cond b (fault_in (widths_in body)) (reply_by w (shapes_of command) body)) (sym other) ∙ none in
-          sound_by w (shapes_of command) body e
+          let e : reply_by w.sizes (shapes_under w.table command) body ≡ None = ap (λ (b : Bool). cond b (fault_in (widths_in body)) (reply_by w.sizes (shapes_under w.table command) body)) (sym other) ∙ none in
+          sound_by w.sizes (shapes_under w.table command) body e
     ]
 
-by_target : (w : Option Widths) (command : CommandNumber) (sender : Sender) (header : Header) (body : List ℕ) (error : ErrorCode) → Holds w (Some command) sender (Sent (Packet header body)) → header.kind ≡ kind.Reply error → packet_data_fault w (Some command) Target (kind.Reply error) body ≡ None
+by_target : (w : Terms) (command : CommandNumber) (sender : Sender) (header : Header) (body : List ℕ) (error : ErrorCode) → Holds w (Some command) sender (Sent (Packet header body)) → header.kind ≡ kind.Reply error → packet_data_fault w (Some command) Target (kind.Reply error) body ≡ None
 by_target w command Debugger header body error h is =
     let broken : option_or (command_fault (Some command) (kind.Reply error)) (packet_data_fault w (Some command) Debugger (kind.Reply error) body) ≡ None =
     ap (λ (k : PacketKind). option_or (command_fault (Some command) k) (packet_data_fault w (Some command) Debugger k body)) (sym is) ∙ h.none_broken in
     cc
 by_target w command Target header body error h is = ap (λ (k : PacketKind). packet_data_fault w (Some command) Target k body) (sym is) ∙ second_none _ _ h.none_broken
 
-reply_sound : (w : Option Widths) (command : CommandNumber) (sender : Sender) (header : Header) (body : List ℕ) (error : ErrorCode) → Holds w (Some command) sender (Sent (Packet header body)) → header.kind ≡ kind.Reply error → eqb error.0 0 ≡ true
-    → body_fault w (reply_in (shapes_of command)) body ≡ None
+reply_sound : (w : Terms) (command : CommandNumber) (sender : Sender) (header : Header) (body : List ℕ) (error : ErrorCode) → Holds w (Some command) sender (Sent (Packet header body)) → header.kind ≡ kind.Reply error → eqb error.0 0 ≡ true
+    → body_fault w.sizes (reply_in (shapes_under w.table command)) body ≡ None
 reply_sound w command sender header body error h is no_error =
     let none = by_target w command sender header body error h is in
     let e : option_map (λ f. BadData f) (reply_fault w (Some command) body) ≡ None = rw no_error at none in
     answer_sound w command body (unmapped _ e)
 
 -- the same for any error code: with an error there is no layout
-pub reply_sound_by : (w : Option Widths) (command : CommandNumber) (sender : Sender) (header : Header) (body : List ℕ) (error : ErrorCode) → Holds w (Some command) sender (Sent (Packet header body)) → header.kind ≡ kind.Reply error
-    → body_fault w (if error.0 == NONE.0 then reply_in (shapes_of command) else None) body ≡ None
+pub reply_sound_by : (w : Terms) (command : CommandNumber) (sender : Sender) (header : Header) (body : List ℕ) (error : ErrorCode) → Holds w (Some command) sender (Sent (Packet header body)) → header.kind ≡ kind.Reply error
+    → body_fault w.sizes (if error.0 == NONE.0 then reply_in (shapes_under w.table command) else None) body ≡ None
 reply_sound_by w command sender header body error h is = elim (cases_Bool (eqb error.0 0)) [
   | inl without ↦ rw without (reply_sound w command sender header body error h is without)
   | inr other ↦ rw other refl

@@ -10,7 +10,10 @@ use Rattle.jdwp_layout.specs.Rows.{Row, RowShapes}
 use Rattle.jdwp_layout.specs.CommandTable.{row_at}
 use Rattle.jdwp_layout.specs.Meanings.{DatumMeaning, One, Int}
 use Rattle.jdwp_layout.specs.Reads.{data_at}
-use Rattle.jdwp_show.specs.declared.pending.CommandNumber.{CommandNumber}
+use Rattle.jdwp_show.specs.declared.command_number.CommandNumber.{CommandNumber}
+use Rattle.jdwp_show.specs.declared.table.Table.{Table}
+use Rattle.jdwp_show.specs.declared.terms.Terms.{Terms}
+use Rattle.jdwp_show.specs.Tables.{row_under}
 
 -- ---- by the layout of the command
 
@@ -21,6 +24,10 @@ shapes_in (Some row) = row.shapes
 
 abbrev pub shapes_of : CommandNumber → Option RowShapes
 shapes_of command = shapes_in (row_at command.set command.number)
+
+-- the same in a table
+abbrev pub shapes_under : Table → CommandNumber → Option RowShapes
+shapes_under table command = shapes_in (row_under table command.set command.number)
 
 abbrev pub fault_in : {A : Type 0} → Result A DataFault → Option DataFault
 fault_in (Ok x) = None
@@ -40,8 +47,8 @@ reply_by widths None body = None
 reply_by widths (Some shapes) body = layout_fault widths shapes.reply body
 
 -- the data of a command
-abbrev pub request_fault : Option Widths → CommandNumber → List ℕ → Option DataFault
-request_fault widths command body = request_by widths (shapes_of command) body
+abbrev pub request_fault : Terms → CommandNumber → List ℕ → Option DataFault
+request_fault terms command body = request_by terms.sizes (shapes_under terms.table command) body
 
 -- ---- VirtualMachine.IDSizes: the reply has five ints, the widths of ids, each 1 to 8
 
@@ -80,7 +87,7 @@ unfoldable pub widths_in : List ℕ → Result Widths DataFault
 widths_in body = widths_under (shapes_of (record { set = ID_SIZES.set; number = ID_SIZES.number })) body
 
 -- the data of a reply without an error to this command
-abbrev pub reply_fault : Option Widths → Option CommandNumber → List ℕ → Option DataFault
-reply_fault widths None body = None
-reply_fault widths (Some command) body =
-    if is_id_sizes command then fault_in (widths_in body) else reply_by widths (shapes_of command) body
+abbrev pub reply_fault : Terms → Option CommandNumber → List ℕ → Option DataFault
+reply_fault terms None body = None
+reply_fault terms (Some command) body =
+    if is_id_sizes command then fault_in (widths_in body) else reply_by terms.sizes (shapes_under terms.table command) body

@@ -1,6 +1,7 @@
 pub mod Lines
 pub mod Found
 pub mod Items
+pub mod Tables
 pub mod Data
 pub mod Rules
 pub mod Sessions
@@ -9,8 +10,5 @@ pub mod DataText
 pub mod MessageLines
 pub mod CaptureLines
 pub mod FaultNumbers
-pub mod Captures
-pub mod Streams
 pub mod Telling
-pub mod Pending
-pub mod Walks
+pub mod Transcripts

@@ -1,5 +1,5 @@
 -- The lines of a capture: which end sent which bytes.
-use Rattle.std.specs.Prelude.{ℕ, ◌+◌, ◌==◌, List, [], ◌∷◌, length, Bool, true, false, Option, Some, None, is_some, Result, Ok, Err, if◌then◌else◌}
+use Rattle.std.specs.Prelude.{◌≡◌, ℕ, ◌+◌, ◌==◌, List, [], ◌∷◌, ◌++◌, length, Bool, true, false, Option, Some, None, is_some, Result, Ok, Err, if◌then◌else◌}
 use Rattle.std.specs.List.{filter_map, flat_map, take_while}
 use Rattle.std.specs.Str.Lines.{lines}
 use Rattle.hex.specs.declared.error.FromHexError.{FromHexError}
@@ -26,6 +26,11 @@ line_of (mark ∷ space ∷ digits) =
     if space == 32
     then (if mark == 62 then line_by Debugger (decode_of digits) else (if mark == 60 then line_by Target (decode_of digits) else None))
     else None
+
+-- what a line says was read behind these bytes, or it does not read
+abbrev pub HasRead : Option Line → Option Sender → List ℕ → List ℕ → Type 0
+HasRead said (Some sender) old new = (bytes : List ℕ) × (said ≡ Some (record { sender = sender; bytes = bytes })) × (new ≡ old ++ bytes)
+HasRead said None old new = (said ≡ None) × (new ≡ old)
 
 abbrev pub reads : List ℕ → Bool
 reads text = is_some (line_of text)

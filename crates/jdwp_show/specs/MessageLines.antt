@@ -14,8 +14,10 @@ use Rattle.jdwp_layout.specs.Meanings.{DatumMeaning}
 use Rattle.jdwp_layout.specs.Reads.{data_at}
 use Rattle.jdwp_show.specs.declared.capture_line.Sender.{Sender}
 use Rattle.jdwp_show.specs.declared.capture_line.Sender.TheVariants.{Debugger, Target}
-use Rattle.jdwp_show.specs.declared.pending.CommandNumber.{CommandNumber}
-use Rattle.jdwp_show.specs.Data.{shapes_of, layout_fault}
+use Rattle.jdwp_show.specs.declared.command_number.CommandNumber.{CommandNumber}
+use Rattle.jdwp_show.specs.declared.table.Table.{Table}
+use Rattle.jdwp_show.specs.declared.terms.Terms.{Terms}
+use Rattle.jdwp_show.specs.Data.{shapes_under, layout_fault}
 use Rattle.jdwp_show.specs.DataText.{data_text, raw_text}
 use Rattle.jdwp_show.specs.Found.{Found, Sent, Faulty}
 
@@ -44,12 +46,12 @@ abbrev pub reply_in : Option RowShapes → Option (List ItemShape)
 reply_in None = None
 reply_in (Some shapes) = Some shapes.reply
 
-abbrev pub request_text : Option Widths → CommandNumber → List ℕ → List ℕ
-request_text widths command body = body_text widths (request_in (shapes_of command)) body
+abbrev pub request_text : Terms → CommandNumber → List ℕ → List ℕ
+request_text terms command body = body_text terms.sizes (request_in (shapes_under terms.table command)) body
 
 -- a reply with an error has no data to read
-abbrev pub reply_text : Option Widths → CommandNumber → ℕ → List ℕ → List ℕ
-reply_text widths command error body = body_text widths (if error == NONE.0 then reply_in (shapes_of command) else None) body
+abbrev pub reply_text : Terms → CommandNumber → ℕ → List ℕ → List ℕ
+reply_text terms command error body = body_text terms.sizes (if error == NONE.0 then reply_in (shapes_under terms.table command) else None) body
 
 -- ---- lines
 
@@ -57,7 +59,7 @@ abbrev pub name_in : Option Row → CommandNumber → List ℕ
 name_in None command = decimal command.set ++ codes "." ++ decimal command.number
 name_in (Some row) command = row.set_name ++ codes "." ++ row.name
 
--- `ThreadReference.Suspend`, or the numbers of the set and the command where the table has no such command
+-- `ThreadReference.Suspend`, or the numbers of the set and the command where no table has such a command
 abbrev pub name_text : CommandNumber → List ℕ
 name_text command = name_in (row_at command.set command.number) command
 
@@ -78,18 +80,18 @@ abbrev pub reply_start : Sender → ℕ → CommandNumber → ℕ → List ℕ
 reply_start sender id command error = mark sender ++ codes " " ++ decimal id ++ codes " reply " ++ name_text command ++ codes " " ++ decimal error
 
 -- A reply is to the command that waits under its id; one to none breaks a rule, and has no line.
-abbrev pub packet_line : Option Widths → Option CommandNumber → Sender → ℕ → PacketKind → List ℕ → List ℕ
-packet_line widths waits sender id (kind.Command set number) body =
+abbrev pub packet_line : Terms → Option CommandNumber → Sender → ℕ → PacketKind → List ℕ → List ℕ
+packet_line terms waits sender id (kind.Command set number) body =
     let command : CommandNumber = record { set = set; number = number } in
-    command_start sender id command ++ request_text widths command body ++ codes "\n"
-packet_line widths None sender id (kind.Reply error) body = []
-packet_line widths (Some command) sender id (kind.Reply error) body = reply_start sender id command error.0 ++ reply_text widths command error.0 body ++ codes "\n"
+    command_start sender id command ++ request_text terms command body ++ codes "\n"
+packet_line terms None sender id (kind.Reply error) body = []
+packet_line terms (Some command) sender id (kind.Reply error) body = reply_start sender id command error.0 ++ reply_text terms command error.0 body ++ codes "\n"
 
 -- with a newline at its end; a frame fault has no line
-abbrev pub found_line : Option Widths → Option CommandNumber → Sender → Found → List ℕ
-found_line widths waits sender (Sent Handshake) = hello_line sender ++ codes "\n"
-found_line widths waits sender (Sent (Packet header body)) = packet_line widths waits sender header.id header.kind body
-found_line widths waits sender (Faulty fault) = []
+abbrev pub found_line : Terms → Option CommandNumber → Sender → Found → List ℕ
+found_line terms waits sender (Sent Handshake) = hello_line sender ++ codes "\n"
+found_line terms waits sender (Sent (Packet header body)) = packet_line terms waits sender header.id header.kind body
+found_line terms waits sender (Faulty fault) = []
 
 -- a layout that was found, apart from where it lies in memory
 abbrev pub found_shape : Option Layout → Option (List ItemShape)

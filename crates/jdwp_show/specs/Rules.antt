@@ -1,18 +1,18 @@
 -- The rules of a session, and which of them an item breaks after the items before it.
-use Rattle.std.specs.Prelude.{ℕ, ◌==◌, ◌&&◌, nat_le, List, length, Bool, true, false, Option, Some, None, is_some, option_map, fold, if◌then◌else◌}
+use Rattle.std.specs.Prelude.{◌≡◌, ℕ, ◌==◌, ◌&&◌, nat_le, List, length, Bool, true, false, Option, Some, None, is_some, option_map, fold, if◌then◌else◌}
 use Rattle.std.specs.List.{list_any}
 use Rattle.std.specs.Option.{option_or}
 use Rattle.jdwp_wire.specs.declared.packet.PacketKind.{PacketKind}
 use Rattle.jdwp_wire.specs.declared.packet.PacketKind.TheVariants as kind
 use Rattle.jdwp_wire.specs.ErrorCodes.{NONE}
 use Rattle.jdwp_wire.specs.Streams.{Handshake, Packet}
-use Rattle.jdwp_wire.specs.Widths.{Widths}
 use Rattle.jdwp_layout.specs.CommandNumbers.{is_command, EVENT, COMPOSITE}
 use Rattle.jdwp_show.specs.declared.capture_fault.CaptureFault.{CaptureFault}
 use Rattle.jdwp_show.specs.declared.capture_fault.CaptureFault.TheVariants.{Frame, IdInUse, UnknownReply, BadData, ErrorWithData, WrongWay}
 use Rattle.jdwp_show.specs.declared.capture_line.Sender.{Sender}
 use Rattle.jdwp_show.specs.declared.capture_line.Sender.TheVariants.{Debugger, Target}
-use Rattle.jdwp_show.specs.declared.pending.CommandNumber.{CommandNumber}
+use Rattle.jdwp_show.specs.declared.command_number.CommandNumber.{CommandNumber}
+use Rattle.jdwp_show.specs.declared.terms.Terms.{Terms}
 use Rattle.jdwp_show.specs.Found.{Found, Sent, Faulty}
 use Rattle.jdwp_show.specs.Items.{Item}
 use Rattle.jdwp_show.specs.Data.{request_fault, reply_fault}
@@ -78,16 +78,16 @@ order_fault begun waits Target (Sent (Packet header body)) = target_fault waits 
 
 -- ---- the rule of data
 
-abbrev pub packet_data_fault : Option Widths → Option CommandNumber → Sender → PacketKind → List ℕ → Option CaptureFault
-packet_data_fault widths waits sender (kind.Command set number) body = option_map BadData (request_fault widths (record { set = set; number = number }) body)
-packet_data_fault widths waits Debugger (kind.Reply error) body = None
-packet_data_fault widths waits Target (kind.Reply error) body =
-    if error.0 == NONE.0 then option_map BadData (reply_fault widths waits body) else (if length body == 0 then None else Some ErrorWithData)
+abbrev pub packet_data_fault : Terms → Option CommandNumber → Sender → PacketKind → List ℕ → Option CaptureFault
+packet_data_fault terms waits sender (kind.Command set number) body = option_map BadData (request_fault terms (record { set = set; number = number }) body)
+packet_data_fault terms waits Debugger (kind.Reply error) body = None
+packet_data_fault terms waits Target (kind.Reply error) body =
+    if error.0 == NONE.0 then option_map BadData (reply_fault terms waits body) else (if length body == 0 then None else Some ErrorWithData)
 
-abbrev pub data_fault : Option Widths → Option CommandNumber → Sender → Found → Option CaptureFault
-data_fault widths waits sender (Sent Handshake) = None
-data_fault widths waits sender (Sent (Packet header body)) = packet_data_fault widths waits sender header.kind body
-data_fault widths waits sender (Faulty fault) = None
+abbrev pub data_fault : Terms → Option CommandNumber → Sender → Found → Option CaptureFault
+data_fault terms waits sender (Sent Handshake) = None
+data_fault terms waits sender (Sent (Packet header body)) = packet_data_fault terms waits sender header.kind body
+data_fault terms waits sender (Faulty fault) = None
 
 -- ---- both
 
@@ -96,5 +96,10 @@ abbrev pub order_fault_of : List Item → Item → Option CaptureFault
 order_fault_of before item = order_fault (has_begun before) (waiting_for before item.found) item.sender item.found
 
 -- the rule that the item breaks: that of data is the last to be looked at
-abbrev pub fault_of : Option Widths → List Item → Item → Option CaptureFault
-fault_of widths before item = option_or (order_fault_of before item) (data_fault widths (waiting_for before item.found) item.sender item.found)
+abbrev pub fault_of : Terms → List Item → Item → Option CaptureFault
+fault_of terms before item = option_or (order_fault_of before item) (data_fault terms (waiting_for before item.found) item.sender item.found)
+
+-- What was found breaks no rule, where this command waits under its id, whether the debugger's handshake was before it or not.
+pub record Holds (terms : Terms) (waits : Option CommandNumber) (sender : Sender) (found : Found) : Type 0 where
+  pub begun : Bool
+  pub none_broken : option_or (order_fault begun waits sender found) (data_fault terms waits sender found) ≡ None

@@ -13,14 +13,18 @@ use Rattle.jdwp_show.specs.declared.capture_fault.CaptureFault.{CaptureFault}
 use Rattle.jdwp_show.specs.declared.capture_fault.CaptureFault.TheVariants.{BadLine}
 use Rattle.jdwp_show.specs.declared.capture_line.Sender.{Sender}
 use Rattle.jdwp_show.specs.declared.capture_line.Sender.TheVariants.{Debugger, Target}
-use Rattle.jdwp_show.specs.declared.checking.Verdict.{Verdict}
-use Rattle.jdwp_show.specs.declared.checking.Verdict.TheVariants.{Yes, No}
-use Rattle.jdwp_show.specs.declared.pending.CommandNumber.{CommandNumber}
+use Rattle.jdwp_show.specs.declared.verdict.Verdict.{Verdict}
+use Rattle.jdwp_show.specs.declared.verdict.Verdict.TheVariants.{Yes, No}
+use Rattle.jdwp_show.specs.declared.command_number.CommandNumber.{CommandNumber}
+use Rattle.jdwp_show.specs.declared.table.Table.{Table}
+use Rattle.jdwp_show.specs.declared.table.Table.TheVariants.{Standard}
+use Rattle.jdwp_show.specs.declared.terms.Terms.{Terms}
 use Rattle.jdwp_show.specs.Data.{is_id_sizes, widths_in}
 use Rattle.jdwp_show.specs.Found.{Found, Sent, Faulty}
 use Rattle.jdwp_show.specs.Items.{Item, items_of}
 use Rattle.jdwp_show.specs.Lines.{line_of, reads, capture_of, bad_line}
 use Rattle.jdwp_show.specs.Rules.{waiting_for, order_fault_of, fault_of}
+use Rattle.jdwp_show.specs.Tables.{terms_by}
 
 -- the first answer to a question that is asked of each item and of those before it
 unfoldable pub first_after : {A : Type 0} → (List Item → Item → Option A) → List Item → List Item → Option A
@@ -34,11 +38,6 @@ first_answer ask items = first_after ask [] items
 unfoldable pub unanswered : {A : Type 0} → (List Item → Item → Option A) → List Item → List Item → List Item
 unanswered ask before [] = []
 unanswered ask before (item ∷ items) = if is_some (ask before item) then [] else item ∷ unanswered ask (before ++ item ∷ []) items
-
--- what is said when each of the items is told in turn, with the command that waits under its id
-unfoldable pub told_each : {S : Type 0} → (S → Option CommandNumber → Item → S) → S → List Item → List Item → S
-told_each says said before [] = said
-told_each says said before (item ∷ items) = told_each says (says said (waiting_for before item.found) item) (before ++ item ∷ []) items
 
 -- ---- the widths of ids
 
@@ -75,18 +74,22 @@ widths_of items = option_flatten (first_answer widths_answer items)
 abbrev pub items_in : List ℕ → List Item
 items_in text = items_of (capture_of text)
 
+-- by what the data of these items are read in a table: the widths are those that the items tell
+abbrev pub terms_of : Table → List Item → Terms
+terms_of table items = terms_by table (widths_of items)
+
 -- the rule that the item breaks in the capture, these items standing before it
-abbrev pub fault_in_capture : List ℕ → List Item → Item → Option CaptureFault
-fault_in_capture text before item = fault_of (widths_of (items_in text)) before item
+abbrev pub fault_in_capture : Table → List ℕ → List Item → Item → Option CaptureFault
+fault_in_capture table text before item = fault_of (terms_of table (items_in text)) before item
 
 -- none of these items breaks a rule
-abbrev pub NoneBreaks : List ℕ → List Item → Type 0
-NoneBreaks text items = (before : List Item) (item : Item) (after : List Item) → items ≡ before ++ item ∷ after → fault_in_capture text before item ≡ None
+abbrev pub NoneBreaks : Table → List ℕ → List Item → Type 0
+NoneBreaks table text items = (before : List Item) (item : Item) (after : List Item) → items ≡ before ++ item ∷ after → fault_in_capture table text before item ≡ None
 
 -- A capture begins a session where each of its lines reads and none of its items breaks a rule.
-pub record BeginsSession (text : List ℕ) : Type 0 where
+pub record BeginsSessionUnder (table : Table) (text : List ℕ) : Type 0 where
   pub lines_read : AllPass reads (lines text)
-  pub none_breaks : NoneBreaks text (items_in text)
+  pub none_breaks : NoneBreaks table text (items_in text)
 
 -- the line of this number, from 1, is the first that does not read
 pub record IsBadLine (text : List ℕ) (number : ℕ) : Type 0 where
@@ -99,38 +102,52 @@ pub record IsBadLine (text : List ℕ) (number : ℕ) : Type 0 where
   pub number_is : number ≡ length before + 1
 
 -- each line reads, and the first item that breaks a rule breaks this one, in this line
-pub record IsBroken (text : List ℕ) (number : ℕ) (fault : CaptureFault) : Type 0 where
+pub record IsBroken (table : Table) (text : List ℕ) (number : ℕ) (fault : CaptureFault) : Type 0 where
   pub lines_read : AllPass reads (lines text)
   pub before : List Item
   pub item : Item
   pub after : List Item
   pub in_items : items_in text ≡ before ++ item ∷ after
-  pub earlier_hold : NoneBreaks text before
-  pub breaks : fault_in_capture text before item ≡ Some fault
+  pub earlier_hold : NoneBreaks table text before
+  pub breaks : fault_in_capture table text before item ≡ Some fault
   pub number_is : number ≡ item.line
 
 -- the first fault of a capture: a line that does not read comes before all others, wherever it stands
+abbrev pub IsFirstFaultUnder : Table → List ℕ → ℕ → CaptureFault → Type 0
+IsFirstFaultUnder table text number fault = ((fault ≡ BadLine) × IsBadLine text number) ⊎ IsBroken table text number fault
+
+-- by the standard's table
+abbrev pub BeginsSession : List ℕ → Type 0
+BeginsSession text = BeginsSessionUnder Standard text
+
 abbrev pub IsFirstFault : List ℕ → ℕ → CaptureFault → Type 0
-IsFirstFault text number fault = ((fault ≡ BadLine) × IsBadLine text number) ⊎ IsBroken text number fault
+IsFirstFault text number fault = IsFirstFaultUnder Standard text number fault
 
 -- ---- the same as a function
 
-abbrev pub fault_answer : Option Widths → List Item → Item → Option (ℕ × CaptureFault)
-fault_answer widths before item = option_map (λ fault. (item.line, fault)) (fault_of widths before item)
+abbrev pub fault_answer : Terms → List Item → Item → Option (ℕ × CaptureFault)
+fault_answer terms before item = option_map (λ fault. (item.line, fault)) (fault_of terms before item)
 
-abbrev pub broken_in : List Item → Option (ℕ × CaptureFault)
-broken_in items = first_answer (fault_answer (widths_of items)) items
+abbrev pub broken_in : Table → List Item → Option (ℕ × CaptureFault)
+broken_in table items = first_answer (fault_answer (terms_of table items)) items
 
 abbrev pub bad_or_broken : Option ℕ → Option (ℕ × CaptureFault) → Option (ℕ × CaptureFault)
 bad_or_broken (Some number) broken = Some (number, BadLine)
 bad_or_broken None broken = broken
 
-abbrev pub first_fault : List ℕ → Option (ℕ × CaptureFault)
-first_fault text = bad_or_broken (bad_line text) (broken_in (items_in text))
+abbrev pub first_fault_under : Table → List ℕ → Option (ℕ × CaptureFault)
+first_fault_under table text = bad_or_broken (bad_line text) (broken_in table (items_in text))
 
 abbrev pub verdict_by : Option (ℕ × CaptureFault) → Verdict
 verdict_by None = Yes
 verdict_by (Some place) = No place.0 place.1
 
+abbrev pub verdict_under : Table → List ℕ → Verdict
+verdict_under table text = verdict_by (first_fault_under table text)
+
+-- by the standard's table
+abbrev pub first_fault : List ℕ → Option (ℕ × CaptureFault)
+first_fault text = first_fault_under Standard text
+
 abbrev pub verdict : List ℕ → Verdict
-verdict text = verdict_by (first_fault text)
+verdict text = verdict_under Standard text

@@ -4,14 +4,17 @@ ghost use Rattle.jdwp_wire.specs.Bytes.{IsBytes};
 ghost use Rattle.jdwp_wire.specs.Widths.{Widths};
 ghost use Rattle.jdwp_layout.specs.CommandNumbers.{ID_SIZES};
 ghost use Rattle.jdwp_layout.specs.Rows.{RowShapes};
-ghost use Rattle.jdwp_show.specs.Data.{shapes_of, widths_in, widths_by};
+ghost use Rattle.jdwp_show.specs.Data.{shapes_of, shapes_under, widths_in, widths_by};
 ghost use Rattle.jdwp_show.specs.declared.capture_line.Sender.{Sender};
 ghost use Rattle.jdwp_show.specs.Found.{Found, found, AreIn};
 ghost use Rattle.jdwp_show.specs.Items.{Item, items_of, found_of, StandsIn};
-ghost use Rattle.jdwp_show.specs.declared.pending.CommandNumber.{CommandNumber};
+ghost use Rattle.jdwp_show.specs.declared.command_number.CommandNumber.{CommandNumber};
 ghost use Rattle.jdwp_show.specs.Lines.{Line, sent_by};
+ghost use Rattle.jdwp_show.specs.MessageLines.{name_in, name_text};
 ghost use Rattle.jdwp_show.specs.Rules.{waiting};
 ghost use Rattle.jdwp_show.specs.Sessions.{widths_of};
+ghost use Rattle.jdwp_show.specs.Tables.{row_under};
+ghost use Rattle.jdwp_show.specs.declared.table.Table.{Table};
 ghost use Rattle.jdwp_show.specs.Waiting.{Waits, TellsWidths};
 
 /// What is found in the bytes of an end is the messages that they begin with, as many as are whole, and the frame fault that what follows
@@ -30,6 +33,14 @@ pub fn tells_widths_by_layout()
       number = ID_SIZES.number;
     }) ≡ Some shapes
         → widths_in body ≡ widths_by widths shapes.reply body }
+{}
+
+/// Data that the standard's table reads are read alike by each table, and a command has one name in all.
+pub fn tables_agree()
+    ensures layouts { (table : Table) (command : CommandNumber) (shapes : RowShapes)
+        → shapes_of command ≡ Some shapes → shapes_under table command ≡ Some shapes }
+    ensures names { (table : Table) (command : CommandNumber)
+        → name_in (row_under table command.set command.number) command ≡ name_text command }
 {}
 
 /// The items of one end, in order, are what is found in all that it sent: no message is lost at the end of a line, and none is made up.

@@ -1,29 +1,29 @@
-//! Captures of sessions of the Java Debug Wire Protocol: judged by `check`, and shown in words by `show`.
+//! Sessions of the Java Debug Wire Protocol in words: the lines by which `show` tells messages, and what captures, their faults and their lines are.
 #![tactic(auto)]
 
 mod capture_fault;
 mod capture_line;
-mod checking;
+mod command_number;
 mod composite_text;
 mod data_text;
-mod found;
 mod hex_digits;
-mod judging;
 pub mod laws;
 mod message_line;
 mod message_text;
-mod pending;
-mod rules;
-mod showing;
+mod shown;
+mod table;
 mod telling;
+mod terms;
 mod text;
 mod transcript;
-mod waiting;
-mod walk;
+mod verdict;
 
 pub use capture_fault::CaptureFault;
-pub use capture_line::Sender;
-pub use checking::{Verdict, check};
+pub use capture_line::{Sender, read_line};
+pub use command_number::CommandNumber;
 pub use message_line::{composite_data_line, composite_line, reply_line};
-pub use pending::CommandNumber;
-pub use showing::{Shown, show};
+pub use shown::Shown;
+pub use table::Table;
+pub use terms::Terms;
+pub use transcript::Transcript;
+pub use verdict::Verdict;

@@ -10,10 +10,10 @@ ghost use Rattle.jdwp_show.specs.MessageLines.{command_start, reply_start};
 ghost use Rattle.jdwp_show.specs.Telling.{Grows};
 
 use crate::capture_line::Sender;
+use crate::command_number::CommandNumber;
 use crate::composite_text::push_composite;
 use crate::data_text::{push_data, push_raw};
 use crate::message_text::{push_command_start, push_reply_start};
-use crate::pending::CommandNumber;
 use crate::text::Text;
 use jdwp_event::Composite;
 use jdwp_layout::{Datum, numbers};

@@ -1,13 +1,14 @@
 //! Messages as lines.
 ghost use Rattle.std.specs.Prelude.{◌≡◌, ◌++◌, ◌==◌, if◌then◌else◌, None, codes};
 ghost use Rattle.jdwp_wire.specs.ErrorCodes.{NONE};
-ghost use Rattle.jdwp_show.specs.Data.{shapes_of};
+ghost use Rattle.jdwp_show.specs.Data.{shapes_under};
 ghost use Rattle.jdwp_show.specs.MessageLines.{body_text, body_fault, request_in, reply_in, name_text, mark, hello_line, command_start, reply_start, found_shape};
 ghost use Rattle.jdwp_show.specs.Telling.{Grows};
 
 use crate::capture_line::Sender;
+use crate::command_number::CommandNumber;
 use crate::data_text::{push_number, push_raw};
-use crate::pending::CommandNumber;
+use crate::table::Table;
 use crate::telling::tell_data;
 use crate::text::Text;
 use jdwp_layout::{Layout, layout_of};
@@ -101,10 +102,10 @@ pub(crate) fn push_sound_body(
 }
 
 /// The layout of the data of a command, where they are read.
-pub(crate) fn request_layout(command: CommandNumber) -> Option<Layout>
-    ensures { found_shape result ≡ request_in (shapes_of command) }
+pub(crate) fn request_layout(table: Table, command: CommandNumber) -> Option<Layout>
+    ensures { found_shape result ≡ request_in (shapes_under table command) }
 {
-    let row = layout_of(command.set, command.number)?;
+    let row = table.row(command.set, command.number)?;
     match row.layouts {
         None => None,
         Some(layouts) => Some(layouts.request),
@@ -112,14 +113,14 @@ pub(crate) fn request_layout(command: CommandNumber) -> Option<Layout>
 }
 
 /// The layout of the data of a reply, where they are read; with an error it has none.
-pub(crate) fn reply_layout(command: CommandNumber, error: ErrorCode) -> Option<Layout>
+pub(crate) fn reply_layout(table: Table, command: CommandNumber, error: ErrorCode) -> Option<Layout>
     ensures { found_shape result ≡ (if error.0 == NONE.0 then reply_in
-        (shapes_of command) else None) }
+        (shapes_under table command) else None) }
 {
     if error != ErrorCode::NONE {
         return None;
     }
-    let row = layout_of(command.set, command.number)?;
+    let row = table.row(command.set, command.number)?;
     match row.layouts {
         None => None,
         Some(layouts) => Some(layouts.reply),

@@ -7,7 +7,7 @@ ghost use Rattle.jdwp_show.specs.Telling.{Grows};
 use jdwp_wire::NoMemory;
 use std::alloc::Global;
 
-/// A text to which nothing more is appended once an allocation was refused.
+/// A text to which nothing more is appended once an allocation was refused, or from the beginning.
 #[derive(Drop)]
 pub(crate) struct Text {
     string: String,
@@ -23,6 +23,23 @@ impl Text {
             string: String::new(alloc),
             refused: false,
         }
+    }
+
+    /// One to which nothing is ever appended.
+    pub(crate) fn none(alloc: Global) -> Text
+        ensures { result.refused ≡ true }
+    {
+        Text {
+            string: String::new(alloc),
+            refused: true,
+        }
+    }
+
+    /// Whether nothing more is appended.
+    pub(crate) fn is_refused(&self) -> bool
+        ensures { result ≡ self.now.refused }
+    {
+        self.refused
     }
 
     pub(crate) fn push_str(&mut self, string: &str)
@@ -51,15 +68,6 @@ impl Text {
         ensures { self.new.refused ≡ true }
     {
         self.refused = true;
-    }
-
-    /// # Errors
-    /// `NoMemory` where an allocation was refused, and only there.
-    pub(crate) fn whole(&self) -> Result<(), NoMemory>
-        ensures ok { OnOk result (self.now.refused ≡ false) }
-        ensures err { OnErr result (self.now.refused ≡ true) }
-    {
-        if self.refused { Err(NoMemory) } else { Ok(()) }
     }
 
     /// The text.

@@ -17,6 +17,7 @@ pub mod Debugger
 pub mod Model
 pub mod Link
 pub mod Show
+pub mod Judge
 pub mod Engine
 pub mod Pipe
 pub mod Serve

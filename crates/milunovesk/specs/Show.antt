@@ -9,9 +9,12 @@ pub use Rattle.jdwp_show.specs.Lines
 pub use Rattle.jdwp_show.specs.MessageLines
 pub use Rattle.jdwp_show.specs.Rules
 pub use Rattle.jdwp_show.specs.Sessions
+pub use Rattle.jdwp_show.specs.Tables
 pub use Rattle.jdwp_show.specs.Waiting
 pub use Rattle.jdwp_show.specs.declared.capture_fault.CaptureFault
 pub use Rattle.jdwp_show.specs.declared.capture_line.Sender
-pub use Rattle.jdwp_show.specs.declared.checking.Verdict
-pub use Rattle.jdwp_show.specs.declared.pending.CommandNumber
-pub use Rattle.jdwp_show.specs.declared.showing.Shown
+pub use Rattle.jdwp_show.specs.declared.verdict.Verdict
+pub use Rattle.jdwp_show.specs.declared.command_number.CommandNumber
+pub use Rattle.jdwp_show.specs.declared.shown.Shown
+pub use Rattle.jdwp_show.specs.declared.table.Table
+pub use Rattle.jdwp_show.specs.declared.terms.Terms

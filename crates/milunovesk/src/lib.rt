@@ -63,8 +63,10 @@ pub use jdwp_text as texts;
 // Both ends in one process.
 pub use jdwp_link::{Link, LinkEvent, Memory, Outcome, Side, Stopped, Way, deliver};
 
-// Captures.
-pub use jdwp_show::{CaptureFault, Shown, Verdict, check, composite_line, reply_line, show};
+// Captures, whole; and sessions and captures judged as they go on.
+pub use jdwp_judge as captures;
+pub use jdwp_judge::{check, show};
+pub use jdwp_show::{CaptureFault, Sender, Shown, Table, Verdict, composite_line, reply_line};
 
 // Sessions over readers and writers.
 pub use jdwp_attach::{

@@ -4,8 +4,8 @@ use Rattle.std.specs.Str.{IsUtf8}
 use Rattle.jdwp_show.specs.CaptureLines.{capture_lines}
 use Rattle.jdwp_show.specs.Sessions.{first_fault, verdict}
 use Rattle.jdwp_show.specs.declared.capture_fault.CaptureFault.{CaptureFault}
-use Rattle.jdwp_show.specs.declared.checking.Verdict.{Verdict}
-use Rattle.jdwp_show.specs.declared.checking.Verdict.TheVariants.{Yes, No}
+use Rattle.jdwp_show.specs.declared.verdict.Verdict.{Verdict}
+use Rattle.jdwp_show.specs.declared.verdict.Verdict.TheVariants.{Yes, No}
 use Rattle.jdwp_show.specs.FaultNumbers.{number_to_print}
 use Rattle.milunovesk_c.specs.declared.judged.Judged.{Judged}
 use Rattle.milunovesk_c.specs.Numbers.{DONE, NO_MEMORY, NOT_UTF8}

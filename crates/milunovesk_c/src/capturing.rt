@@ -14,7 +14,7 @@ pub extern "C" fn mv_check(alloc: Global, text: &[u8], out: &mut Judged) -> u32
     *out = Judged::nothing();
     match std::str::from_utf8(text) {
         Err(_) => NOT_UTF8,
-        Ok(capture) => match jdwp_show::check(alloc, capture) {
+        Ok(capture) => match jdwp_judge::check(alloc, capture) {
             Err(_) => NO_MEMORY,
             Ok(verdict) => {
                 *out = Judged::of(verdict);
@@ -40,7 +40,7 @@ pub extern "C" fn mv_show(
     *judged = Judged::nothing();
     match std::str::from_utf8(text) {
         Err(_) => NOT_UTF8,
-        Ok(capture) => match jdwp_show::show(alloc, capture) {
+        Ok(capture) => match jdwp_judge::show(alloc, capture) {
             Err(_) => NO_MEMORY,
             Ok(shown) => {
                 *judged = Judged::by(shown.fault);

@@ -1,6 +1,7 @@
 //! Verdicts on whole captures.
 use crate::asserts::expect_same;
-use jdwp_show::{CaptureFault, Verdict, check};
+use jdwp_judge::check;
+use jdwp_show::{CaptureFault, Verdict};
 use jdwp_wire::{DataFault, FrameFault};
 use std::alloc::Global;
 use std::process::Abort;

@@ -1,6 +1,6 @@
 //! Captures at their limits: the longest composite that a target sends, and long raw data.
 use crate::asserts::expect_same;
-use jdwp_show::show;
+use jdwp_judge::show;
 use std::alloc::Global;
 use std::process::Abort;
 

@@ -1,9 +1,10 @@
 //! Captures of every command, modifier and event, at several widths of ids.
 use crate::asserts::expect_same;
+use jdwp_judge::{check, show};
 use jdwp_layout::{
     CommandRow, Entry, Field, Item, Layout, Layouts, fields_of_event, fields_of_modifier, layout_of,
 };
-use jdwp_show::{CaptureFault, Verdict, check, show};
+use jdwp_show::{CaptureFault, Verdict};
 use jdwp_wire::{DataFault, IdSizes};
 use std::alloc::Global;
 use std::process::Abort;

@@ -1,8 +1,9 @@
 //! Captures in words.
 use crate::asserts::expect_same;
 use jdwp_event::{Composite, Policy};
+use jdwp_judge::show;
 use jdwp_layout::{Datum, Scalar};
-use jdwp_show::{CaptureFault, composite_data_line, composite_line, reply_line, show};
+use jdwp_show::{CaptureFault, composite_data_line, composite_line, reply_line};
 use jdwp_value::ObjectId;
 use jdwp_wire::{ErrorCode, FrameFault};
 use std::alloc::Global;

@@ -9,8 +9,8 @@ returns-in-More c = no_packet _ c.in-More.ensures.front
 pub returns-in-Fault : goal.returns-in-Fault
 returns-in-Fault c = (λ more. faulty_packets _ more _ c.in-Fault.ensures.front, refl, omega arith)
 
-pub returns-in_ok-body-in-Whole : goal.returns-in_ok-body-in-Whole
-returns-in_ok-body-in-Whole c =
+pub returns-in-Whole : goal.returns-in-Whole
+returns-in-Whole c =
     let front = c.in-Whole.ensures.front in
     let long = packet_length _ _ _ _ front in
-    rw c.in_ok-body-in-Whole.ensures.items (λ more. packet_front _ more _ _ _ front, long.2, long.1)
+    (λ more. packet_front _ more _ _ _ front, long.2, long.1)

@@ -1,7 +1,0 @@
-use Rattle.std.proofs.lemmas.Grind.{common_steps}
-use Rattle.std.proofs.Common.{arith}
-use Rattle.jdwp_show.proofs.transcript.TranscriptObserver.observe.Goals as goal
-
-pub returns : goal.returns
-returns c =
-    grind (arith, common_steps)
