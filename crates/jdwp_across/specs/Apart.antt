@@ -17,8 +17,8 @@ use Rattle.jdwp_across.specs.Programs.{Act, DebuggerAsks, Programs, TargetDefers
 abbrev pub programs_apart : {S : Type 0} → Meaning S → Settings → S → ℕ → Programs S
 programs_apart m settings s id = record (new_programs m settings s id) { debugger = new_debugger_in Apart settings.limits id }
 
--- Commands are answered in order: the target does not begin to defer replies, and none is asked that invokes a method, which this target
--- refuses.
+-- Commands are answered in order: the target does not begin to defer replies, and none is asked that invokes a method: for such a one this
+-- debugger takes threads to run, and this target, where it answers it, lets none.
 abbrev pub is_in_order : Act → Bool
 is_in_order (TargetDefers deferring) = not deferring
 is_in_order (DebuggerAsks c ticket) = not (is_invocation c)

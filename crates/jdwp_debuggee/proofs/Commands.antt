@@ -14,14 +14,17 @@ use Rattle.jdwp_event.specs.Requests.{AskedRequest, all_asked}
 use Rattle.jdwp_machine.specs.Meanings.{Meaning}
 use Rattle.jdwp_machine.specs.Laws.{IsLawful, MayAnswer}
 use Rattle.jdwp_debuggee.specs.Settings.{Settings}
-use Rattle.jdwp_debuggee.specs.State.{State, Moment, count_of, with_counts, raised, lowered, cleared, only, at_limit}
+use Rattle.jdwp_debuggee.specs.State.{State, Moment, count_of, with_counts, raised, lowered, cleared, only, at_limit, restopped}
 use Rattle.jdwp_action.specs.Actions
 use Rattle.jdwp_debuggee.specs.Answering.{is_answered}
 use Rattle.jdwp_action.specs.Actions.{Command, Action, action_of, is_dispose, is_exit, about}
 use Rattle.jdwp_action.specs.AnswerPackets.{sizes_answer}
 use Rattle.jdwp_debuggee.specs.Answers.{done, int_answer, bounded, fits_packet, frames_answer, query_of, all_threads, status_answer}
 use Rattle.jdwp_debuggee.specs.Refusals.{set_refusal}
-use Rattle.jdwp_debuggee.specs.Effects.{Effect, effect, effect_by, does, answered, refused, changes, suspend_by, suspend_thread_by, suspend_thread_at, resume_thread_by, slots_by, slots_at, set_by, answer_count, answer_status, answer_frames, answer_thread}
+use Rattle.jdwp_debuggee.specs.Strings.{makes_string, text_in}
+use Rattle.jdwp_debuggee.specs.Effects.{Effect, asks_by, string_made, effect, effect_by, does, answered, refused, changes, suspend_by, suspend_thread_by, suspend_thread_at, resume_thread_by, slots_by, slots_at, set_by, answer_count, answer_status, answer_frames, answer_thread}
+use Rattle.jdwp_debuggee.specs.Invoking.{answer_asked}
+use Rattle.jdwp_machine.specs.Invocations.{invocation_request}
 use Rattle.jdwp_debuggee.specs.Breadth.{is_plain}
 use Rattle.jdwp_debuggee.specs.Facts.{AreBelow, IsSound, moved_by, requests_by, Says, OfThread, Does, is_not_asked, is_no_asked_breakpoint}
 use Rattle.jdwp_debuggee.proofs.Small.{and-true, and-false, some-same, asked-append, asked-filter, below-filter, below-more}
@@ -183,6 +186,45 @@ slots-does m law settings now t f values n x s e h =
       }
     ] h
 
+-- ---- strings
+
+pub made-sound : {S : Type 0} (m : Meaning S) → IsLawful m → (settings : Settings) (now : Moment S) (text : List ℕ) → IsSound m settings now → IsSound m settings (string_made m now text).after
+made-sound m law settings now text s = record {
+  state = law.state_made now.machine text s.state;
+  lives = λ u. law.live_made now.machine text u s.state ∙ s.lives u;
+  at_most = s.at_most;
+  below = s.below;
+}
+
+made-does : {S : Type 0} (m : Meaning S) → IsLawful m → (settings : Settings) (now : Moment S) (text : List ℕ) (x : Answer) → IsSound m settings now
+    → Does m settings now Actions.Ask (record { after = record { state = now.state; machine = m.made now.machine text }; answer = x; dies = false; closes = false })
+made-does m law settings now text (Data content) s = record {
+  sound = made-sound m law settings now text s;
+  ever = λ u k. law.ever_made now.machine text u s.state ∙ k;
+  sizes = law.sizes_made now.machine text s.state;
+  counts = λ u. refl;
+  requests = refl;
+  says = tt;
+  of_thread = λ u k. absurd (cc);
+  handshaken = refl;
+  alive = and-true now.state.alive;
+  dies = refl;
+  closes = refl;
+}
+made-does m law settings now text (Error e) s = record {
+  sound = made-sound m law settings now text s;
+  ever = λ u k. law.ever_made now.machine text u s.state ∙ k;
+  sizes = law.sizes_made now.machine text s.state;
+  counts = λ u. refl;
+  requests = refl;
+  says = tt;
+  of_thread = λ u k. absurd (cc);
+  handshaken = refl;
+  alive = and-true now.state.alive;
+  dies = refl;
+  closes = refl;
+}
+
 -- ---- requests
 
 pub set-sound : {S : Type 0} (m : Meaning S) (settings : Settings) (now : Moment S) (byte policy : ℕ) (modifiers : List ModifierMeaning) → IsSound m settings now → IsSound m settings (set_by m now byte policy modifiers None).after
@@ -219,6 +261,22 @@ listed-does m settings now content s e =
       | false ↦ does_refused m settings now Actions.AllThreads INTERNAL s (λ t h. absurd (cc))
     ]
 
+-- the threads that an event stopped count for nothing here
+restopped-does : {S : Type 0} (m : Meaning S) (settings : Settings) (now : Moment S) (a : Action) (state : State) (x : Answer) → Does m settings now a (changes now state x) → Does m settings now a (changes now (restopped state) x)
+restopped-does m settings now a state x d = record {
+  sound = record { state = d.sound.state; lives = d.sound.lives; at_most = d.sound.at_most; below = d.sound.below };
+  ever = d.ever;
+  sizes = d.sizes;
+  counts = d.counts;
+  requests = d.requests;
+  says = d.says;
+  of_thread = d.of_thread;
+  handshaken = d.handshaken;
+  alive = d.alive;
+  dies = d.dies;
+  closes = d.closes;
+}
+
 -- ---- all commands
 
 abbrev Is : {S : Type 0} → Meaning S → Settings → Moment S → Action → Effect S → Type 0
@@ -231,7 +289,8 @@ does_all m law settings now c Actions.Suspend s =
       | false ↦ λ e. does_counts m settings now Actions.Suspend raised s (raised-most settings now s.at_most e) (λ t c. refl) (λ rs n. refl) tt (λ t h. absurd (cc)) refl refl
     ] refl
 does_all m law settings now c Actions.Resume s =
-    does_counts m settings now Actions.Resume lowered s (λ t n h. lowered-most n settings.count_limit (s.at_most t n h)) (λ t c. refl) (λ rs n. refl) tt (λ t h. absurd (cc)) refl refl
+    restopped-does m settings now Actions.Resume (with_counts lowered now.state) done
+    (does_counts m settings now Actions.Resume lowered s (λ t n h. lowered-most n settings.count_limit (s.at_most t n h)) (λ t c. refl) (λ rs n. refl) tt (λ t h. absurd (cc)) refl refl)
 does_all m law settings now c Actions.Dispose s =
     record {
       sound = record { state = s.state; lives = (sound_counts m settings now cleared s (λ t n h. omega arith)).lives; at_most = (sound_counts m settings now cleared s (λ t n h. omega arith)).at_most; below = tt };
@@ -336,9 +395,10 @@ does_all m law settings now c (Actions.SuspendThread t) s =
 does_all m law settings now c (Actions.ResumeThread t) s =
     elim (count_of now.state t) as (λ v. count_of now.state t ≡ v → Does m settings now (Actions.ResumeThread t) (resume_thread_by now t v)) [
       | None ↦ λ e. does_refused m settings now (Actions.ResumeThread t) INVALID_THREAD s (λ u h. of-one (Error INVALID_THREAD) now.state t u None e (λ _. refl) h)
-      | Some n ↦ λ e. does_counts m settings now (Actions.ResumeThread t) (only t lowered) s
+      | Some n ↦ λ e. restopped-does m settings now (Actions.ResumeThread t) (with_counts (only t lowered) now.state) done
+          (does_counts m settings now (Actions.ResumeThread t) (only t lowered) s
           (λ u k h. only-most t u (k - 1) k settings.count_limit (λ q. lowered-most k settings.count_limit (s.at_most u k h)) (s.at_most u k h))
-          (λ u c. refl) (λ rs n. refl) tt (λ u h. of-one done now.state t u (Some n) e refl h) refl refl
+          (λ u c. refl) (λ rs n. refl) tt (λ u h. of-one done now.state t u (Some n) e refl h) refl refl)
     ] refl
 does_all m law settings now c (Actions.SuspendCount t) s =
     elim (count_of now.state t) as (λ v. count_of now.state t ≡ v → Does m settings now (Actions.SuspendCount t) (answered now (answer_count v))) [
@@ -371,7 +431,10 @@ does_all m law settings now c (Actions.AskThread t) s =
 does_all m law settings now c Actions.AllThreads s = listed-does m settings now _ s refl
 does_all m law settings now c Actions.IdSizes s = does_answered m settings now Actions.IdSizes (sizes_answer (m.sizes now.machine)) s refl tt (λ t h. absurd (cc))
 does_all m law settings now c Actions.Ask s =
-    does_answered m settings now Actions.Ask (bounded settings (m.sizes now.machine) (m.query now.machine (query_of c))) s refl tt (λ t h. absurd (cc))
+    elim (makes_string (query_of c)) as (λ b. Does m settings now Actions.Ask (asks_by m settings now c b)) [
+      | true ↦ let text = text_in (query_of c).content in made-does m law settings now text (m.made_answer now.machine text) s
+      | false ↦ does_answered m settings now Actions.Ask (answer_asked m settings now (query_of c) (invocation_request c.set c.number)) s refl tt (λ t h. absurd (cc))
+    ]
 
 not-implemented : (t : ℕ) (count : Option ℕ) → OfThread (Error NOT_IMPLEMENTED) count
 not-implemented t count k = absurd (omega (arith, k))

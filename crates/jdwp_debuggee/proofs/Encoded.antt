@@ -71,7 +71,7 @@ own-encoded m law d k c h = by-time m law d k c (action_of c) (has-shape c) h (i
 -- ---- the list of threads
 
 -- an answer is encoded in the layout of a row, whichever command has it
-same-row : (w : Widths) (set number k n : ℕ) (a : Answer) → row_reply (row_at k n) ≡ row_reply (row_at set number) → EncodesAnswer w k n a → EncodesAnswer w set number a
+pub same-row : (w : Widths) (set number k n : ℕ) (a : Answer) → row_reply (row_at k n) ≡ row_reply (row_at set number) → EncodesAnswer w k n a → EncodesAnswer w set number a
 same-row w set number k n (Data content) same h = subst (λ (o : Option (List ItemShape)). EncodesReply w o content) same h
 same-row w set number k n (Error e) same h = h
 

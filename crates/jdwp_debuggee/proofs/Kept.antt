@@ -1,6 +1,6 @@
 -- what the code keeps stays
 use Rattle.jdwp_wire.specs.Numbers.{greatest_int}
-use Rattle.std.proofs.Common.{◌≡◌, ◌≤◌, ◌==◌, ◌+◌, ◌-◌, cond, ℕ, Bool, true, false, Option, Some, None, [], length, refl, sym, ◌∙◌, ap, subst, arith}
+use Rattle.std.proofs.Common.{◌≡◌, ◌≤◌, ◌==◌, ◌+◌, ◌-◌, cond, ℕ, Bool, true, false, Option, Some, None, List, [], length, refl, sym, ◌∙◌, ap, subst, arith}
 use Rattle.std.specs.Prelude.{IfSome}
 use Rattle.jdwp_machine.specs.Meanings.{Meaning, has}
 use Rattle.jdwp_machine.specs.Laws.{IsLawful, AreDistinct}
@@ -74,6 +74,18 @@ both h k = cc
 -- after the first handshake
 pub kept-shaken : {S : Type 0} (m : Meaning S) (d : Debuggee S) (f : ℕ → ℕ → ℕ) → IsKept m d → d.moment.state.handshaken ≡ true → ((t n : ℕ) → count_of d.moment.state t ≡ Some n → f t n ≤ d.settings.count_limit) → IsKept m (with_state (with_counts f d.moment.state) d)
 kept-shaken m d f k h most = kept-counts m d f k most (λ e. absurd (both h e))
+
+-- the threads that an event stopped count for nothing here
+pub kept-stopped : {S : Type 0} (m : Meaning S) (d : Debuggee S) (stopped : List ℕ) → IsKept m d → IsKept m (with_state (record d.moment.state { stopped = stopped }) d)
+kept-stopped m d stopped k = record {
+  sound = record { state = k.sound.state; lives = k.sound.lives; at_most = k.sound.at_most; below = k.sound.below };
+  distinct = k.distinct;
+  quiet = k.quiet;
+  limit = k.limit;
+  next = k.next;
+  limits = k.limits;
+  room = k.room;
+}
 
 pub kept-lowered : {S : Type 0} (m : Meaning S) (d : Debuggee S) → IsKept m d → IsKept m (with_state (with_counts lowered d.moment.state) d)
 kept-lowered m d k = kept-counts m d lowered k (λ t n h. lowered-most n d.settings.count_limit (k.sound.at_most t n h)) (λ _ t. refl)

@@ -15,8 +15,8 @@ use Rattle.jdwp_debuggee.specs.Entries.{AllAtMost}
 use Rattle.jdwp_debuggee.specs.Facts.{IsSound}
 use Rattle.jdwp_debuggee.specs.Settings.{Settings}
 use Rattle.jdwp_debuggee.specs.State.{State, Moment, Thread, at_limit, changed, count_of, ids, is_marked, is_other, marked, with_packet, without_thread}
-use Rattle.jdwp_debuggee.specs.Steps.{Step, death_by, ended_by, ends, happens, is_full, is_zero, may_step, occurs, occurs_by, raised_by, report_by, with_happening, starts, starts_by, suspended_by, thread_ended, with_started}
-use Rattle.jdwp_debuggee.specs.StepParts.{AreFew, Steps, is_full_by, is_ready, packet_after, raised_for, unless_last, with_new}
+use Rattle.jdwp_debuggee.specs.Steps.{Step, death_by, ended_by, ends, happens, is_full, is_zero, may_step, occurs, occurs_by, raised_by, report_by, with_happening, starts, starts_by, stopped_by, suspended_by, thread_ended, with_started}
+use Rattle.jdwp_debuggee.specs.StepParts.{AreFew, Steps, is_full_by, is_ready, packet_after, raised_for, stopped_for, unless_last, with_new}
 use Rattle.jdwp_debuggee.specs.Visits.{turned, turned_one, visits_at, visits_for, visits_stepped}
 use Rattle.jdwp_debuggee.proofs.Kept.{most-of}
 use Rattle.jdwp_debuggee.proofs.Small.{and-left, and-right}
@@ -175,6 +175,7 @@ reported m s t h st o = record {
       threads = raised_for o h.thread (with_new (started h) st.threads);
       requests = all_counted h st.requests;
       next_packet = packet_after o st.next_packet;
+      stopped = stopped_for o h.thread st.stopped;
     };
     machine = m.stepped s t;
   };
@@ -187,7 +188,7 @@ pub report-is : {S : Type 0} (m : Meaning S) (s : S) (t : ℕ) (h : HappeningMea
 report-is m s t h st None =
     ap (λ (x : State). let y : Step _ = record { after = record { state = x; machine = m.stepped s t }; sends = None; ends = false; dies = false } in y) (state-started (started h) (with_happening h st))
 report-is m s t h st (Some c) =
-    ap (λ (x : State). let y : Step _ = record { after = record { state = with_packet (suspended_by c h.thread x); machine = m.stepped s t }; sends = Some c; ends = false; dies = false } in y) (state-started (started h) (with_happening h st))
+    ap (λ (x : State). let y : Step _ = record { after = record { state = with_packet (stopped_by c h.thread (suspended_by c h.thread x)); machine = m.stepped s t }; sends = Some c; ends = false; dies = false } in y) (state-started (started h) (with_happening h st))
 
 -- ---- for the code's calls
 

@@ -1,4 +1,5 @@
 pub mod Small
+pub mod StillStopped
 pub mod Plain
 pub mod ThreadLists
 pub mod EntryLists
@@ -13,6 +14,7 @@ pub mod KeptSteps
 pub mod KeptRequests
 pub mod Answered
 pub mod Writable
+pub mod Invoked
 pub mod ThreadsListed
 pub mod LeastThread
 pub mod Fitting
@@ -22,5 +24,7 @@ pub mod ReplyShapes
 pub mod OwnAnswers
 pub mod SetAnswers
 pub mod Encoded
+pub mod MadeStrings
 pub mod Wanting
 pub mod OwnRefusals
+pub mod InvocationsRefused

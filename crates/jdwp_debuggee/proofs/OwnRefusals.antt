@@ -5,21 +5,17 @@ use Rattle.std.specs.Prelude.{ℤ, IfSome, slice_index_or}
 use Rattle.jdwp_wire.specs.declared.data_fault.DataFault.{DataFault}
 use Rattle.jdwp_wire.specs.declared.error_code.ErrorCode.{ErrorCode}
 use Rattle.jdwp_wire.specs.ErrorCodes.{INVALID_THREAD, THREAD_NOT_SUSPENDED, ILLEGAL_ARGUMENT}
-use Rattle.jdwp_wire.specs.Each.{each_at}
 use Rattle.jdwp_wire.specs.Listed.{list_at}
-use Rattle.jdwp_wire.specs.Numbers.{number_at}
-use Rattle.jdwp_wire.specs.Reading.{Reader, ◌>>=◌}
-use Rattle.jdwp_wire.specs.Sequence.{mapped}
+use Rattle.jdwp_wire.specs.Reading.{◌>>=◌}
 use Rattle.jdwp_wire.specs.Widths.{Widths}
-use Rattle.jdwp_layout.specs.declared.item.Field.{Field}
 use Rattle.jdwp_layout.specs.declared.item.Field.TheVariants as field
-use Rattle.jdwp_layout.specs.CommandNumbers.{is_command, FRAMES, FRAME_COUNT, STACK_FRAME, THREAD_REFERENCE, SUSPEND, RESUME, DISPOSE, EXIT, HOLD_EVENTS, RELEASE_EVENTS, ALL_THREADS, ID_SIZES, SUSPEND_THREAD, RESUME_THREAD, THREAD_STATUS, SUSPEND_COUNT, SET_SLOTS, SET_REQUEST, CLEAR_REQUEST, CLEAR_ALL_BREAKPOINTS}
+use Rattle.jdwp_layout.specs.CommandNumbers.{is_command, FRAMES, FRAME_COUNT, STACK_FRAME, THREAD_REFERENCE, SUSPEND, RESUME, DISPOSE, EXIT, HOLD_EVENTS, RELEASE_EVENTS, ALL_THREADS, ID_SIZES, SET_SLOTS, SET_REQUEST, CLEAR_REQUEST, CLEAR_ALL_BREAKPOINTS}
 use Rattle.jdwp_layout.specs.CommandTable.{row_at}
 use Rattle.jdwp_layout.specs.declared.answer.Answer.TheVariants.{Error}
 use Rattle.jdwp_value.specs.declared.value.Value.{Value}
 use Rattle.jdwp_layout.specs.Meanings.{ScalarMeaning, DatumMeaning, One, Many, Object, Frame, Byte, Int}
 use Rattle.jdwp_layout.specs.Reads.{data_at, entry_at, item_at, items_at}
-use Rattle.jdwp_layout.specs.Shapes.{ItemShape, OneOf, ListOf, RegionOf, Modifiers}
+use Rattle.jdwp_layout.specs.Shapes.{ItemShape, OneOf, ListOf, Modifiers}
 use Rattle.jdwp_event.specs.Composites.{POLICY_ALL}
 use Rattle.jdwp_event.specs.Modifiers.{ModifierMeaning, modifiers_of}
 use Rattle.jdwp_machine.specs.declared.query.Query.{Query}
@@ -32,25 +28,25 @@ use Rattle.jdwp_debuggee.specs.Answers.{bounded, query_of}
 use Rattle.jdwp_debuggee.specs.Askings.{carries_nothing, carries_thread, is_short}
 use Rattle.jdwp_debuggee.specs.Effects.{answer_frames, answer_thread, answered, does, effect, effect_by, refused, set_by, slots_at, slots_by}
 use Rattle.jdwp_machine.specs.declared.profile.Profile.{Profile}
-use Rattle.jdwp_machine.specs.Profiles.{CLASS_PATHS, adds_raw}
+use Rattle.jdwp_machine.specs.Profiles.{adds_raw}
 use Rattle.jdwp_debuggee.specs.Answering.{is_answered, is_read, read_as, unread_as, with_bytes}
-use Rattle.jdwp_debuggee.specs.ReadParts.{AsksFor, begin_with_object, begins_with_thread, answered_request, unread}
+use Rattle.jdwp_debuggee.specs.ReadParts.{AsksFor, begins_with_thread, answered_request, unread}
 use Rattle.jdwp_debuggee.specs.Refusals.{is_some_count, kind_refusal, modifiers_refusal, or_else, room_refusal, set_refusal, shape_refusal, unless}
 use Rattle.jdwp_debuggee.specs.Settings.{Settings}
 use Rattle.jdwp_debuggee.specs.State.{State, Moment, count_of}
 use Rattle.jdwp_debuggee.specs.Wants.{MayWant, asks_of_frames, early_refusal, is_positive, own_refusal, refusal_by_count}
-use Rattle.jdwp_debuggee.proofs.Read.{raw_place, read_is, unread_is}
+use Rattle.jdwp_debuggee.proofs.Read.{raw_cases, read_is, unread_is}
 
 -- ---- what was read, part by part
 
-bound : {A B : Type 0} (found : Result A DataFault) (next : A → Result B DataFault) (b : B) → (found >>= next) ≡ Ok b → (a : A) × (found ≡ Ok a) × (next a ≡ Ok b)
+pub bound : {A B : Type 0} (found : Result A DataFault) (next : A → Result B DataFault) (b : B) → (found >>= next) ≡ Ok b → (a : A) × (found ≡ Ok a) × (next a ≡ Ok b)
 bound (Ok a) next b h = (a, refl, h)
 bound (Err e) next b h = absurd cc
 
-abbrev ok : {X : Type 0} → X → Result X DataFault
+abbrev pub ok : {X : Type 0} → X → Result X DataFault
 ok x = Ok x
 
-same : {X : Type 0} (x y : X) → ok x ≡ ok y → x ≡ y
+pub same : {X : Type 0} (x y : X) → ok x ≡ ok y → x ≡ y
 same x y e = cc
 
 finished : {X : Type 0} (b : Bool) (x y : X) (e : DataFault) → (if b then Ok x else Err e) ≡ ok y → x ≡ y
@@ -65,13 +61,13 @@ pub record Split (w : Widths) (n : ℕ) (item : ItemShape) (items : List ItemSha
   pub behind : items_at w n items first.1 ≡ Ok others
   pub all : content ≡ first.0 ∷ others.0
 
-split : (w : Widths) (n : ℕ) (item : ItemShape) (items : List ItemShape) (bytes : List ℕ) (x : List DatumMeaning × List ℕ) → items_at w n (item ∷ items) bytes ≡ Ok x → Split w n item items bytes x.0
+pub split : (w : Widths) (n : ℕ) (item : ItemShape) (items : List ItemShape) (bytes : List ℕ) (x : List DatumMeaning × List ℕ) → items_at w n (item ∷ items) bytes ≡ Ok x → Split w n item items bytes x.0
 split w n item items bytes x e =
     let one = bound (item_at w n item bytes) _ x e in
     let more = bound (items_at w n items one.0.1) _ x one.2 in
     record { first = one.0; others = more.0; found = one.1; behind = more.1; all = sym (ap (λ (y : List DatumMeaning × List ℕ). y.0) (same _ _ more.2)) }
 
-whole : (w : Widths) (items : List ItemShape) (bytes : List ℕ) (content : List DatumMeaning) → data_at w items bytes ≡ Ok content
+pub whole : (w : Widths) (items : List ItemShape) (bytes : List ℕ) (content : List DatumMeaning) → data_at w items bytes ≡ Ok content
     → (x : List DatumMeaning × List ℕ) × (items_at w (length bytes) items bytes ≡ Ok x) × (x.0 ≡ content)
 whole w items bytes content e =
     let found = bound (items_at w (length bytes) items bytes) _ content e in
@@ -266,11 +262,11 @@ read-raw p w set number bytes c e read = unread-raw set number bytes c (adds_raw
 
 pub refuses-unread : (p : Profile) (w : Widths) (set number : ℕ) (bytes : List ℕ) (c : Command) (P : Type 0) → begins_with_thread set ≡ true → answered_request p set number ≡ None → read_as p w set number bytes ≡ Ok c → P
 refuses-unread p w set number bytes c P begins e read =
-    let is = raw_place p set number (read-raw p w set number bytes c e read).0 in
-    let apart : begins_with_thread CLASS_PATHS.set ≡ true = rw is.0 at begins in absurd cc
+    raw_cases p set number (λ (s n : ℕ). begins_with_thread s ≡ true → P) (λ h. absurd cc) (λ h. absurd cc) (λ h. absurd cc) (λ h. absurd cc) (read-raw p w set number bytes c e read).0 begins
 
 refuses-raw : (p : Profile) (settings : Settings) (state : State) (set number : ℕ) (bytes : List ℕ) → adds_raw p set number ≡ true → None ≡ own_refusal settings state (action_of (with_bytes set number bytes))
-refuses-raw p settings state set number bytes h = let is = raw_place p set number h in rw (is.0, is.1) refl
+refuses-raw p settings state set number bytes h =
+    raw_cases p set number (λ (s n : ℕ). None ≡ own_refusal settings state (action_of (with_bytes s n bytes))) refl refl refl refl h
 
 refuses-by : (p : Profile) (settings : Settings) (state : State) (w : Widths) (set number : ℕ) (bytes : List ℕ) (o : Option (List ItemShape)) (c : Command) → begins_with_thread set ≡ false → is_command SET_REQUEST set number ≡ false
     → answered_request p set number ≡ o → read_as p w set number bytes ≡ Ok c → None ≡ own_refusal settings state (action_of c)

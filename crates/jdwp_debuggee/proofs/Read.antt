@@ -1,5 +1,5 @@
 -- Reading commands.
-use Rattle.std.proofs.Common.{◌≡◌, ℕ, Bool, true, false, ◌||◌, ◌&&◌, ◌==◌, List, [], Option, Some, None, Result, Ok, Err, refl, ap, sym, subst, ◌∙◌, if◌then◌else◌}
+use Rattle.std.proofs.Common.{◌≡◌, ℕ, Bool, true, false, ◌||◌, ◌&&◌, ◌==◌, ◌⊎◌, inl, inr, List, [], Option, Some, None, Result, Ok, refl, ap, sym, subst, ◌∙◌, if◌then◌else◌}
 use Rattle.std.specs.Prelude.{MatchOption}
 use Rattle.std.specs.List.{filter_map}
 use Rattle.std.proofs.lemmas.List.Elements.{filter_map-append}
@@ -15,18 +15,19 @@ use Rattle.jdwp_wire.specs.declared.error_code.ErrorCode.{ErrorCode}
 use Rattle.jdwp_wire.specs.Widths.{Widths}
 use Rattle.jdwp_layout.specs.CommandNumbers.{CommandNumber, is_command, SUSPEND, RESUME, HOLD_EVENTS, RELEASE_EVENTS, ID_SIZES, DISPOSE, CLEAR_ALL_BREAKPOINTS, SUSPEND_THREAD, RESUME_THREAD, THREAD_STATUS, SUSPEND_COUNT, CLEAR_REQUEST}
 use Rattle.jdwp_layout.specs.CommandTable.{row_at}
-use Rattle.jdwp_layout.specs.Meanings.{ScalarMeaning, DatumMeaning, entry_meaning, entry_meanings}
+use Rattle.jdwp_layout.specs.Meanings.{ScalarMeaning, DatumMeaning, Raw, entry_meaning, entry_meanings}
 use Rattle.jdwp_layout.specs.Reads.{data_at}
 use Rattle.jdwp_layout.specs.Shapes.{ItemShape}
 use Rattle.jdwp_debuggee.specs.declared.command.ParsedCommand.{ParsedCommand}
-use Rattle.jdwp_action.specs.Actions.{Command, slot_of, is_implemented}
+use Rattle.jdwp_action.specs.Actions.{Ask, Command, slot_of, is_implemented}
 use Rattle.jdwp_action.specs.CommandReads.{command_read, content_read, with_content}
 use Rattle.jdwp_action.specs.RowLayouts.{row_request}
 use Rattle.jdwp_debuggee.specs.Askings.{Asking, asked_meaning, asks, asking_of, carries_nothing, carries_thread, is_short}
 use Rattle.jdwp_machine.specs.declared.profile.Profile.{Profile}
 use Rattle.jdwp_machine.specs.declared.profile.Profile.TheVariants.{Standard, Jdi}
+use Rattle.jdwp_machine.specs.Invocations.{CLASS_INVOKE, INTERFACE_INVOKE, OBJECT_INVOKE, is_invocation, is_there, of_object, of_type}
 use Rattle.jdwp_machine.specs.Profiles.{CLASS_PATHS, adds_raw}
-use Rattle.jdwp_debuggee.specs.Answering.{is_read, read_as, unread_as}
+use Rattle.jdwp_debuggee.specs.Answering.{is_read, read_as, unread_as, with_bytes}
 use Rattle.jdwp_debuggee.specs.ReadParts.{IsBare, answered_request, unread}
 
 -- one entry more of a list of slots
@@ -83,10 +84,55 @@ unread_by w set number bytes false r e = refl
 pub unread_is : (p : Profile) (w : Widths) (set number : ℕ) (bytes : List ℕ) → answered_request p set number ≡ None → read_as p w set number bytes ≡ unread_as set number bytes (adds_raw p set number)
 unread_is p w set number bytes e = unread_by w set number bytes (is_read p (unread set number)) (adds_raw p set number) e
 
--- a raw command that is answered is ClassPaths
-pub raw_place : (p : Profile) (set number : ℕ) → adds_raw p set number ≡ true → (set ≡ CLASS_PATHS.set) × (number ≡ CLASS_PATHS.number)
-raw_place Standard set number h = absurd cc
-raw_place Jdi set number h = let is = both_true (set == CLASS_PATHS.set) (number == CLASS_PATHS.number) h in (eqb-true set CLASS_PATHS.set is.0, eqb-true number CLASS_PATHS.number is.1)
+-- a raw command that is answered is ClassPaths or an invocation
+at_place : (k : CommandNumber) (set number : ℕ) (P : ℕ → ℕ → Type 0) → P k.set k.number → is_command k set number ≡ true → P set number
+at_place k set number P here h =
+    let is = both_true (set == k.set) (number == k.number) h in
+    rw (eqb-true set k.set is.0, eqb-true number k.number is.1) here
+
+-- where a test holds of a list that is chosen by two others
+chosen : (a b c : Bool) (xs ys : List ItemShape) → is_there (if a || b then Some xs else (if c then Some ys else None)) ≡ true → (a ≡ true) ⊎ ((b ≡ true) ⊎ (c ≡ true))
+chosen true b c xs ys h = inl refl
+chosen false true c xs ys h = inr (inl refl)
+chosen false false true xs ys h = inr (inr refl)
+chosen false false false xs ys h = absurd cc
+
+one_of : (a b : Bool) → (a || b) ≡ true → (a ≡ true) ⊎ (b ≡ true)
+one_of true b h = inl refl
+one_of false b h = inr h
+
+pub invocation_cases : (set number : ℕ) (P : ℕ → ℕ → Type 0) → P CLASS_INVOKE.set CLASS_INVOKE.number → P INTERFACE_INVOKE.set INTERFACE_INVOKE.number → P OBJECT_INVOKE.set OBJECT_INVOKE.number → is_invocation set number ≡ true → P set number
+invocation_cases set number P class interface object h = elim (chosen (is_command CLASS_INVOKE set number) (is_command INTERFACE_INVOKE set number) (is_command OBJECT_INVOKE set number) of_type of_object h) [
+  | inl a ↦ at_place CLASS_INVOKE set number P class a
+  | inr (inl b) ↦ at_place INTERFACE_INVOKE set number P interface b
+  | inr (inr c) ↦ at_place OBJECT_INVOKE set number P object c
+]
+
+pub raw_cases : (p : Profile) (set number : ℕ) (P : ℕ → ℕ → Type 0) → P CLASS_PATHS.set CLASS_PATHS.number → P CLASS_INVOKE.set CLASS_INVOKE.number → P INTERFACE_INVOKE.set INTERFACE_INVOKE.number → P OBJECT_INVOKE.set OBJECT_INVOKE.number
+    → adds_raw p set number ≡ true → P set number
+raw_cases Standard set number P paths class interface object h = absurd cc
+raw_cases Jdi set number P paths class interface object h = elim (one_of (is_command CLASS_PATHS set number) (is_invocation set number) h) [
+  | inl k ↦ at_place CLASS_PATHS set number P paths k
+  | inr k ↦ invocation_cases set number P class interface object k
+]
+
+abbrev AsksRaw : List ℕ → ℕ → ℕ → Type 0
+AsksRaw bytes set number =
+    asking_of (with_bytes set number bytes) ≡ record { action = Ask; question = Some (record { set = set; number = number; content = if is_invocation set number then Raw bytes ∷ [] else [] }) }
+
+-- it asks the machine
+pub raw_asks : (p : Profile) (set number : ℕ) (bytes : List ℕ) → adds_raw p set number ≡ true
+    → asking_of (with_bytes set number bytes) ≡ record { action = Ask; question = Some (record { set = set; number = number; content = if is_invocation set number then Raw bytes ∷ [] else [] }) }
+raw_asks p set number bytes h = raw_cases p set number (AsksRaw bytes) refl refl refl refl h
+
+-- as it is read
+pub raw_reads : (p : Profile) (w : Widths) (set number : ℕ) (bytes : List ℕ) → answered_request p set number ≡ None → adds_raw p set number ≡ true → read_as p w set number bytes ≡ Ok (with_bytes set number bytes)
+raw_reads p w set number bytes none raw = unread_is p w set number bytes none ∙ ap (λ (r : Bool). unread_as set number bytes r) raw
+
+pub asks_raw : (p : Profile) (w : Widths) (set number : ℕ) (bytes : List ℕ) (content : List DatumMeaning) → answered_request p set number ≡ None → adds_raw p set number ≡ true → content ≡ (if is_invocation set number then Raw bytes ∷ [] else [])
+    → Ok (record { action = Ask; question = Some (record { set = set; number = number; content = content }) }) ≡ asks (read_as p w set number bytes)
+asks_raw p w set number bytes content none raw is =
+    rw is (sym (ap (λ (r : Result Command ErrorCode). asks r) (raw_reads p w set number bytes none raw) ∙ ap (λ (a : Asking). Ok a) (raw_asks p set number bytes raw)))
 
 asks_is : (p : Profile) (w : Widths) (set number : ℕ) (bytes : List ℕ) (items : List ItemShape) → answered_request p set number ≡ Some items
     → asks (read_as p w set number bytes) ≡ asks (content_read set number (data_at w items bytes))

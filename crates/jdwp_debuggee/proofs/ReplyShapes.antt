@@ -30,7 +30,7 @@ IsShape (Some shapes) shape = shape ≡ Some shapes
 abbrev pub HasShape : Command → Action → Type 0
 HasShape c a = IsShape (shape_by a) (row_reply (row_at c.set c.number))
 
-and_both : (a b : Bool) → (a && b) ≡ true → (a ≡ true) × (b ≡ true)
+pub and_both : (a b : Bool) → (a && b) ≡ true → (a ≡ true) × (b ≡ true)
 and_both true true h = (refl, refl)
 and_both true false h = absurd (false≢true h)
 and_both false b h = absurd (false≢true h)

@@ -1,5 +1,5 @@
 -- When memory may be wanted.
-use Rattle.std.proofs.Common.{◌≡◌, ℕ, List, [], ◌∷◌, Some, Result, Ok, Err, refl}
+use Rattle.std.proofs.Common.{◌≡◌, ℕ, Bool, true, false, if◌then◌else◌, List, [], ◌∷◌, Some, None, Result, Ok, Err, refl}
 use Rattle.std.specs.Prelude.{IfErr}
 use Rattle.jdwp_wire.specs.declared.data_fault.DataFault.{DataFault}
 use Rattle.jdwp_wire.specs.declared.data_fault.DataFault.TheVariants as fault
@@ -7,7 +7,7 @@ use Rattle.jdwp_wire.specs.declared.no_memory.NoMemory.{NoMemory}
 use Rattle.jdwp_wire.specs.Widths.{Widths}
 use Rattle.jdwp_layout.specs.Grammar.{EncodesData}
 use Rattle.jdwp_layout.specs.Keeping.{DataAreKept}
-use Rattle.jdwp_layout.specs.Meanings.{DatumMeaning}
+use Rattle.jdwp_layout.specs.Meanings.{DatumMeaning, Raw}
 use Rattle.jdwp_layout.specs.Reads.{data_at}
 use Rattle.jdwp_layout.specs.Shapes.{ItemShape}
 use Rattle.jdwp_layout.proofs.GrammarLaws.{data_again}
@@ -18,7 +18,9 @@ use Rattle.jdwp_debuggee.specs.Sending.{sent_short}
 use Rattle.jdwp_debuggee.specs.Wants.{ReadsData}
 use Rattle.jdwp_debuggee.specs.declared.command.ParsedCommand.{ParsedCommand}
 use Rattle.jdwp_debuggee.specs.declared.reply.Reply.{Reply}
-use Rattle.jdwp_debuggee.proofs.Read.{read_is}
+use Rattle.jdwp_machine.specs.Invocations.{is_invocation}
+use Rattle.jdwp_machine.specs.Profiles.{adds_raw}
+use Rattle.jdwp_debuggee.proofs.Read.{raw_reads, read_is}
 
 -- ---- reading
 
@@ -41,6 +43,14 @@ read-encoded p w set number bytes items found (Ok asked) e hides keeps is = tt
 read-encoded p w set number bytes items found (Err error) e hides keeps is =
     let encoded = hides is in
     read-whole p w set number bytes items encoded.0 e (data_again w items bytes encoded.0 encoded.1) (kept-some w items encoded.0 bytes encoded.1 (keeps is))
+
+-- an invocation carries its bytes
+bytes-kept : (p : Profile) (w : Widths) (set number : ℕ) (bytes : List ℕ) (b : Bool) → is_invocation set number ≡ b → b ≡ true → (if b then Raw bytes ∷ [] else []) ≡ [] → ⊥
+bytes-kept p w set number bytes true is h e = absurd cc
+bytes-kept p w set number bytes false is h e = absurd cc
+
+pub invocation-kept : (p : Profile) (w : Widths) (set number : ℕ) (bytes : List ℕ) → answered_request p set number ≡ None → adds_raw p set number ≡ true → is_invocation set number ≡ true → ReadsData (read_as p w set number bytes)
+invocation-kept p w set number bytes none raw is = rw (raw_reads p w set number bytes none raw) (bytes-kept p w set number bytes (is_invocation set number) refl is)
 
 -- ---- what is answered
 

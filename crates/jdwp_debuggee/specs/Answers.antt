@@ -7,9 +7,11 @@ use Rattle.jdwp_value.specs.Rising.{put_in}
 use Rattle.jdwp_value.specs.Rising as things
 use Rattle.jdwp_layout.specs.declared.answer.Answer.{Answer}
 use Rattle.jdwp_layout.specs.declared.answer.Answer.TheVariants.{Data, Error}
+use Rattle.jdwp_layout.specs.Meanings as meaning
 use Rattle.jdwp_layout.specs.Meanings.{Int, Object, DatumMeaning, One, Many}
 use Rattle.jdwp_layout.specs.Writes.{data_canonical}
 use Rattle.jdwp_machine.specs.declared.query.Query.{Query}
+use Rattle.jdwp_machine.specs.Invocations.{is_invocation}
 use Rattle.jdwp_machine.specs.Meanings.{Meaning}
 use Rattle.jdwp_debuggee.specs.Settings.{Settings}
 use Rattle.jdwp_debuggee.specs.State.{State, Thread, count_in, ids}
@@ -56,12 +58,13 @@ status_answer count = Data (One (Int (pos 1)) ∷ One (Int (pos (if count == 0 t
 
 -- ---- answers by the machine
 
-abbrev pub content_of : Carried → List DatumMeaning
-content_of (Content items) = items
-content_of (Raw bytes) = []
+-- what a command of this set and number carries as data: an invocation that is raw its bytes, and another that is raw nothing
+abbrev pub content_of : ℕ → ℕ → Carried → List DatumMeaning
+content_of set number (Content items) = items
+content_of set number (Raw bytes) = if is_invocation set number then meaning.Raw bytes ∷ [] else []
 
 abbrev pub query_of : Command → Query
-query_of c = record { set = c.set; number = c.number; content = content_of c.carried }
+query_of c = record { set = c.set; number = c.number; content = content_of c.set c.number c.carried }
 
 -- a question about a live thread's frames, by its suspend count
 abbrev pub frames_answer : {S : Type 0} → Meaning S → S → Command → ℕ → Answer

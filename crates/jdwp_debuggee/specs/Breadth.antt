@@ -1,6 +1,8 @@
 -- Which commands change what: all but a few change nothing.
-use Rattle.std.specs.Prelude.{Bool, true, false}
-use Rattle.jdwp_action.specs.Actions.{Action, Suspend, Resume, Dispose, Exit, HoldEvents, ReleaseEvents, SetRequest, ClearRequest, ClearBreakpoints, SuspendThread, ResumeThread, SetSlots}
+use Rattle.std.specs.Prelude.{Bool, true, false, ◌&&◌, not}
+use Rattle.jdwp_action.specs.Actions.{Action, Command, action_of, Suspend, Resume, Dispose, Exit, HoldEvents, ReleaseEvents, SetRequest, ClearRequest, ClearBreakpoints, SuspendThread, ResumeThread, SetSlots}
+use Rattle.jdwp_debuggee.specs.Answers.{query_of}
+use Rattle.jdwp_debuggee.specs.Strings.{makes_string}
 
 -- the command changes nothing of the state
 abbrev pub is_plain : Action → Bool
@@ -17,8 +19,12 @@ is_plain (SuspendThread t) = false
 is_plain (ResumeThread t) = false
 is_plain action = true
 
+-- an action that changes nothing of the machine, where it makes no string
+abbrev pub leaves_machine : Action → Bool
+leaves_machine Exit = false
+leaves_machine (SetSlots t f values) = false
+leaves_machine action = true
+
 -- the command changes nothing of the machine
-abbrev pub keeps_machine : Action → Bool
-keeps_machine Exit = false
-keeps_machine (SetSlots t f values) = false
-keeps_machine action = true
+abbrev pub keeps_machine : Command → Bool
+keeps_machine c = not (makes_string (query_of c)) && leaves_machine (action_of c)

@@ -8,14 +8,17 @@ use Rattle.jdwp_layout.specs.declared.answer.Answer.TheVariants.{Error}
 use Rattle.jdwp_event.specs.Modifiers.{ModifierMeaning, Step, modifiers_of}
 use Rattle.jdwp_event.specs.RequestLists as lists
 use Rattle.jdwp_event.specs.Requests.{AskedRequest, Origin, Request, new_request}
+use Rattle.jdwp_machine.specs.Invocations.{invocation_request}
 use Rattle.jdwp_machine.specs.Meanings.{Meaning}
 use Rattle.jdwp_debuggee.specs.Settings.{Settings}
-use Rattle.jdwp_debuggee.specs.State.{State, Moment, count_of, with_counts, raised, lowered, only, at_limit, reset, dead}
+use Rattle.jdwp_debuggee.specs.State.{State, Moment, count_of, with_counts, raised, lowered, only, at_limit, reset, restopped, dead}
 use Rattle.jdwp_action.specs.Actions
 use Rattle.jdwp_action.specs.Actions.{Command, Action, action_of}
 use Rattle.jdwp_debuggee.specs.Answering.{is_answered}
+use Rattle.jdwp_debuggee.specs.Invoking.{answer_asked}
 use Rattle.jdwp_debuggee.specs.Origins.{origin_of}
 use Rattle.jdwp_debuggee.specs.Refusals.{set_refusal}
+use Rattle.jdwp_debuggee.specs.Strings.{makes_string, text_in}
 use Rattle.jdwp_action.specs.AnswerPackets.{sizes_answer}
 use Rattle.jdwp_debuggee.specs.Answers.{done, int_answer, all_threads, status_answer, query_of, frames_answer, bounded}
 
@@ -53,7 +56,7 @@ suspend_thread_by settings now t (Some count) = suspend_thread_at now t (count =
 
 abbrev pub resume_thread_by : {S : Type 0} → Moment S → ℕ → Option ℕ → Effect S
 resume_thread_by now t None = refused now INVALID_THREAD
-resume_thread_by now t (Some count) = changes now (with_counts (only t lowered) now.state) done
+resume_thread_by now t (Some count) = changes now (restopped (with_counts (only t lowered) now.state)) done
 
 -- ---- what is answered where nothing changes
 
@@ -73,7 +76,8 @@ abbrev pub answer_thread : {S : Type 0} → Meaning S → Settings → Moment S 
 answer_thread m settings now c None = Error INVALID_THREAD
 answer_thread m settings now c (Some count) = bounded settings (m.sizes now.machine) (m.query now.machine (query_of c))
 
--- the answer to a question: of a thread by its count, of the debuggee, or what the machine answers
+-- the answer to a question: of a thread by its count, of the debuggee, or what the machine answers, to an invocation by a thread that an
+-- event stopped
 abbrev pub answer_to : {S : Type 0} → Meaning S → Settings → Moment S → Command → Action → Answer
 answer_to m settings now c (Actions.SuspendCount t) = answer_count (count_of now.state t)
 answer_to m settings now c (Actions.ThreadStatus t) = answer_status (count_of now.state t)
@@ -81,7 +85,7 @@ answer_to m settings now c (Actions.AskFrames t) = answer_frames m settings now 
 answer_to m settings now c (Actions.AskThread t) = answer_thread m settings now c (count_of now.state t)
 answer_to m settings now c Actions.AllThreads = bounded settings (m.sizes now.machine) (all_threads now.state)
 answer_to m settings now c Actions.IdSizes = sizes_answer (m.sizes now.machine)
-answer_to m settings now c action = bounded settings (m.sizes now.machine) (m.query now.machine (query_of c))
+answer_to m settings now c action = answer_asked m settings now (query_of c) (invocation_request c.set c.number)
 
 -- ---- slots
 
@@ -97,6 +101,22 @@ slots_at m now t f values false = record {
 abbrev pub slots_by : {S : Type 0} → Meaning S → Moment S → ℕ → ℕ → List (ℤ × Value) → Option ℕ → Effect S
 slots_by m now t f values None = refused now INVALID_THREAD
 slots_by m now t f values (Some count) = slots_at m now t f values (count == 0)
+
+-- ---- strings
+
+-- a string of this text is made: the machine changes, and the state stays
+abbrev pub string_made : {S : Type 0} → Meaning S → Moment S → List ℕ → Effect S
+string_made m now text = record {
+  after = record { state = now.state; machine = m.made now.machine text };
+  answer = m.made_answer now.machine text;
+  dies = false;
+  closes = false;
+}
+
+-- CreateString; or a question, at which nothing changes
+abbrev pub asks_by : {S : Type 0} → Meaning S → Settings → Moment S → Command → Bool → Effect S
+asks_by m settings now c true = string_made m now (text_in (query_of c).content)
+asks_by m settings now c false = answered now (answer_to m settings now c Actions.Ask)
 
 -- ---- event requests
 
@@ -142,7 +162,7 @@ all_ended m s (t ∷ ts) = all_ended m (m.ended s t) ts
 
 abbrev pub does : {S : Type 0} → Meaning S → Settings → Moment S → Command → Action → Effect S
 does m settings now c Actions.Suspend = suspend_by now (at_limit settings.count_limit now.state)
-does m settings now c Actions.Resume = changes now (with_counts lowered now.state) done
+does m settings now c Actions.Resume = changes now (restopped (with_counts lowered now.state)) done
 does m settings now c Actions.Dispose = record { after = record { state = reset now.state; machine = now.machine }; answer = done; dies = false; closes = true }
 does m settings now c Actions.Exit =
     record { after = record { state = dead now.state; machine = all_ended m now.machine (m.live now.machine) }; answer = done; dies = true; closes = true }
@@ -155,6 +175,7 @@ does m settings now c Actions.ClearBreakpoints = changes now (without_breakpoint
 does m settings now c (Actions.SuspendThread t) = suspend_thread_by settings now t (count_of now.state t)
 does m settings now c (Actions.ResumeThread t) = resume_thread_by now t (count_of now.state t)
 does m settings now c (Actions.SetSlots t f values) = slots_by m now t f values (count_of now.state t)
+does m settings now c Actions.Ask = asks_by m settings now c (makes_string (query_of c))
 -- a question: nothing changes
 does m settings now c action = answered now (answer_to m settings now c action)
 

@@ -9,7 +9,10 @@ pub mod Askings
 pub mod ActionParts
 pub mod ReadParts
 pub mod Answering
+pub mod Invoking
+pub mod Strings
 pub mod Effects
+pub mod InvocationLaws
 pub mod Steps
 pub mod Breadth
 pub mod Facts

@@ -7,7 +7,7 @@ use Rattle.jdwp_debuggee.specs.State.{Thread, Moment}
 -- a moment with these threads, of which nothing else is seen
 abbrev pub moment_of : {S : Type 0} → List Thread → S → Moment S
 moment_of threads machine = record {
-  state = record { threads = threads; requests = []; held = false; handshaken = false; alive = true; next_request = 1; next_packet = 0 };
+  state = record { threads = threads; requests = []; held = false; handshaken = false; alive = true; next_request = 1; next_packet = 0; stopped = [] };
   machine = machine;
 }
 

@@ -1,4 +1,5 @@
 -- What is sent for an answer (JDWP specification, "Packets": a reply's error code and data).
+use Rattle.byteorder.specs.Endian.{big_bytes}
 use Rattle.std.specs.Prelude.{◌≡◌, ℕ, ◌+◌, ◌≤◌, suc, nat_le, if◌then◌else◌, ◌∷◌, Bool, true, false, List, [], length, None, Result, Ok, Err}
 use Rattle.jdwp_wire.specs.ErrorCodes.{NONE}
 use Rattle.jdwp_wire.specs.Widths.{Widths}
@@ -20,6 +21,7 @@ use Rattle.jdwp_debuggee.specs.Effects.{carried}
 use Rattle.jdwp_debuggee.specs.Replies.{reply_meaning}
 use Rattle.jdwp_debuggee.specs.Visits.{visits_carried}
 use Rattle.jdwp_debuggee.specs.declared.reply.Reply.{Reply}
+use Rattle.jdwp_debuggee.specs.declared.reply.Reply.TheVariants as reply
 use Rattle.jdwp_debuggee.specs.declared.reply.Sent.{Sent}
 use Rattle.jdwp_debuggee.specs.declared.reply.Sent.TheVariants as sent
 
@@ -28,10 +30,16 @@ use Rattle.jdwp_debuggee.specs.declared.reply.Sent.TheVariants as sent
 abbrev pub sent_error : Sent → ErrorCode
 sent_error (sent.Short reply) = error_of (reply_meaning reply)
 sent_error (sent.Written bytes) = NONE
+sent_error (sent.Object id) = NONE
 
 abbrev pub sent_bytes : Widths → Sent → List ℕ
 sent_bytes w (sent.Short reply) = answer_bytes w (reply_meaning reply)
 sent_bytes w (sent.Written bytes) = bytes.items
+sent_bytes w (sent.Object id) = big_bytes w.object id.0
+
+-- a refusal as it is sent
+abbrev pub short_refused : ErrorCode → Sent
+short_refused e = sent.Short (reply.Refused e)
 
 -- a reply that takes no memory is sent, where there is one
 abbrev pub sent_short : {E : Type 0} → Result Reply E → Result Sent E

@@ -1,5 +1,5 @@
 -- The state of the debuggee (JDWP specification: the sets VirtualMachine, ThreadReference and EventRequest).
-use Rattle.std.specs.Prelude.{ℕ, ◌+◌, ◌-◌, ◌^◌, ◌%◌, Bool, true, false, ◌==◌, List, [], ◌∷◌, ◌++◌, map, Option, Some, None, if◌then◌else◌}
+use Rattle.std.specs.Prelude.{ℕ, ◌+◌, ◌-◌, ◌^◌, ◌%◌, Bool, true, false, ◌==◌, not, List, [], ◌∷◌, ◌++◌, map, Option, Some, None, if◌then◌else◌}
 use Rattle.std.specs.List.{list_any, filter}
 use Rattle.jdwp_event.specs.Requests.{Request}
 
@@ -10,7 +10,8 @@ pub record Thread : Type 0 where
   pub death_reported : Bool
 
 -- The live threads; the event requests by rising id; whether events are held; whether the first handshake of the target's life
--- was completed; whether the machine is alive; and the ids of the next request and of the target's next packet.
+-- was completed; whether the machine is alive; the ids of the next request and of the target's next packet; and the threads that an event
+-- stopped, in the order in which it did.
 pub record State : Type 0 where
   pub threads : List Thread
   pub requests : List Request
@@ -19,6 +20,7 @@ pub record State : Type 0 where
   pub alive : Bool
   pub next_request : ℕ
   pub next_packet : ℕ
+  pub stopped : List ℕ
 
 -- The state, and that of the machine, at one moment.
 pub record Moment (S : Type 0) : Type 0 where
@@ -105,12 +107,27 @@ is_marked_by (Some entry) = entry.death_reported
 abbrev pub is_marked : State → ℕ → Bool
 is_marked state t = is_marked_by (thread_in state.threads t)
 
+-- ---- threads that an event stopped
+
+-- A thread is suspended by an event from the event of its own whose policy suspended it until its count is 0 again. Where policy ALL suspends
+-- others, too, no event stopped these.
+abbrev pub is_above_zero : Option ℕ → Bool
+is_above_zero None = false
+is_above_zero (Some n) = not (n == 0)
+
+-- those of them that are still suspended
+abbrev pub still_stopped : List Thread → List ℕ → List ℕ
+still_stopped threads stopped = filter (λ (t : ℕ). is_above_zero (count_in threads t)) stopped
+
+abbrev pub restopped : State → State
+restopped state = record state { stopped = still_stopped state.threads state.stopped }
+
 -- ---- sessions
 
--- The end of a session, by Dispose or by a loss: every suspend count is 0, there are no requests, and events are not held. Who lives,
+-- The end of a session, by Dispose or by a loss: every suspend count is 0, there are no requests, no event stopped anybody, and events are not held. Who lives,
 -- whose death was reported, and the next ids stay.
 abbrev pub reset : State → State
-reset state = record state { threads = changed cleared state.threads; requests = []; held = false }
+reset state = record state { threads = changed cleared state.threads; requests = []; held = false; stopped = [] }
 
 -- the machine died: no threads and no requests
 abbrev pub dead : State → State
@@ -138,4 +155,5 @@ new_state threads = record {
   alive = true;
   next_request = 1;
   next_packet = 1;
+  stopped = [];
 }

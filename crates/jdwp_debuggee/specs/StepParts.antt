@@ -1,5 +1,6 @@
 -- Parts of a step, as the code makes them one after the other.
-use Rattle.std.specs.Prelude.{◌≡◌, ◌<◌, ◌+◌, ◌^◌, ℕ, Bool, true, false, ◌&&◌, ◌||◌, not, nat_lt, List, [], ◌∷◌, ◌++◌, length, Option, Some, None, IfSome, ⊤, if◌then◌else◌}
+use Rattle.std.specs.Prelude.{◌≡◌, ◌<◌, ◌+◌, ◌^◌, ℕ, Bool, true, false, ◌&&◌, ◌||◌, not, nat_lt, List, [], ◌∷◌, ◌++◌, length, Option, Some, None, IfSome, ⊤, if◌then◌else◌, vec_capacity, vec_len}
+use Rattle.std.specs.Global.{Vec}
 use Rattle.std.specs.Option.{option_map}
 use Rattle.jdwp_wire.specs.Widths.{Widths}
 use Rattle.jdwp_value.specs.declared.id.ObjectId.{ObjectId}
@@ -11,7 +12,7 @@ use Rattle.jdwp_debuggee.specs.Entries.{LiveThreads}
 use Rattle.jdwp_debuggee.specs.Sending.{FitsPacket}
 use Rattle.jdwp_debuggee.specs.Settings.{Settings}
 use Rattle.jdwp_debuggee.specs.State.{Thread, State, changed, count_of, at_limit, next_packet_id}
-use Rattle.jdwp_debuggee.specs.Steps.{is_zero, starts_one, may_step, occurs, raised_by, start_policy}
+use Rattle.jdwp_debuggee.specs.Steps.{is_zero, starts_one, may_step, occurs, raised_by, start_policy, stops}
 use Rattle.jdwp_debuggee.specs.Visits.{visits_stepped}
 use Rattle.jdwp_debuggee.specs.declared.steps.StepDone.{StepDone}
 
@@ -60,6 +61,16 @@ with_new (Some t) threads = threads ++ record { id = t; suspend_count = 0; death
 abbrev pub raised_for : Option CompositeMeaning → ℕ → List Thread → List Thread
 raised_for None event_thread threads = threads
 raised_for (Some c) event_thread threads = changed (raised_by c.policy event_thread) threads
+
+-- there is room for one more that an event stopped, if anything is sent
+abbrev pub HasStopRoom : Option CompositeMeaning → Vec ObjectId → Type 0
+HasStopRoom None stopped = ⊤
+HasStopRoom (Some c) stopped = vec_len stopped < vec_capacity stopped
+
+-- the threads that an event stopped, behind what is sent
+abbrev pub stopped_for : Option CompositeMeaning → ℕ → List ℕ → List ℕ
+stopped_for None event_thread stopped = stopped
+stopped_for (Some c) event_thread stopped = if stops c.policy then stopped ++ event_thread ∷ [] else stopped
 
 -- the id of the next packet, behind what is sent
 abbrev pub packet_after : Option CompositeMeaning → ℕ → ℕ

@@ -1,5 +1,5 @@
 -- What a step of a thread does (JDWP specification, "Protocol Details": the command Composite of the set Event, and suspend policies).
-use Rattle.std.specs.Prelude.{ℕ, ◌+◌, ◌==◌, nat_lt, Bool, true, false, ◌&&◌, not, List, [], ◌∷◌, Option, Some, None, if◌then◌else◌, length}
+use Rattle.std.specs.Prelude.{ℕ, ◌+◌, ◌==◌, nat_lt, Bool, true, false, ◌&&◌, ◌||◌, not, List, [], ◌∷◌, ◌++◌, Option, Some, None, if◌then◌else◌, length}
 use Rattle.jdwp_event.specs.Composites.{CompositeMeaning, POLICY_NONE, POLICY_EVENT_THREAD, POLICY_ALL, gathered, vm_start}
 use Rattle.jdwp_event.specs.Filters.{all_counted}
 use Rattle.jdwp_event.specs.Occurrences.{HappeningMeaning, started, runs_out}
@@ -48,6 +48,14 @@ raised_by policy event_thread t n =
 abbrev pub suspended_by : CompositeMeaning → ℕ → State → State
 suspended_by c event_thread state = with_counts (raised_by c.policy event_thread) state
 
+-- whether a policy suspends the event's thread
+abbrev pub stops : ℕ → Bool
+stops policy = (policy == POLICY_ALL) || (policy == POLICY_EVENT_THREAD)
+
+-- the event's thread is suspended by it, if the policy suspends it
+abbrev pub stopped_by : CompositeMeaning → ℕ → State → State
+stopped_by c event_thread state = record state { stopped = if stops c.policy then state.stopped ++ event_thread ∷ [] else state.stopped }
+
 -- ---- a step
 
 -- The moment after a step, what is sent, whether the thread ended, and whether it was the last, so that the machine died.
@@ -76,7 +84,7 @@ ends m s t (state, dies) = record { after = record { state = state; machine = m.
 abbrev pub death_by : {S : Type 0} → Meaning S → S → ℕ → HappeningMeaning → State → Option CompositeMeaning → Step S
 death_by m s t h state None = ends m s t (thread_ended t (with_happening h state))
 death_by m s t h state (Some c) = record {
-  after = record { state = with_packet (with_mark t (suspended_by c h.thread (with_happening h state))); machine = s };
+  after = record { state = with_packet (with_mark t (stopped_by c h.thread (suspended_by c h.thread (with_happening h state)))); machine = s };
   sends = Some c;
   ends = false;
   dies = false;
@@ -92,7 +100,7 @@ abbrev pub report_by : {S : Type 0} → Meaning S → S → ℕ → HappeningMea
 report_by m s t h state None =
     record { after = record { state = with_started (started h) (with_happening h state); machine = m.stepped s t }; sends = None; ends = false; dies = false }
 report_by m s t h state (Some c) = record {
-  after = record { state = with_packet (suspended_by c h.thread (with_started (started h) (with_happening h state))); machine = m.stepped s t };
+  after = record { state = with_packet (stopped_by c h.thread (suspended_by c h.thread (with_started (started h) (with_happening h state)))); machine = m.stepped s t };
   sends = Some c;
   ends = false;
   dies = false;
@@ -120,7 +128,7 @@ start_policy false = POLICY_NONE
 abbrev pub start_event : Settings → State → CompositeMeaning
 start_event settings state = vm_start (start_policy settings.start_all) (least_thread state)
 
--- The first handshake of the target's life: VM_START is sent, and its policy ALL suspends every thread.
+-- The first handshake of the target's life: VM_START is sent, and its policy ALL suspends every thread. It comes of no step, and stops nobody.
 abbrev pub handshaken : Settings → State → State
 handshaken settings state =
     with_packet (suspended_by (start_event settings state) (least_thread state) (record state { handshaken = true }))

@@ -6,13 +6,18 @@ use Rattle.jdwp_event.specs.Composites.{POLICY_ALL}
 use Rattle.jdwp_event.specs.Modifiers.{ModifierMeaning}
 use Rattle.jdwp_machine.specs.declared.query.Query.{Query}
 use Rattle.jdwp_machine.specs.Laws.{takes_memory}
+use Rattle.jdwp_machine.specs.Invocations.{invocation_request}
 use Rattle.jdwp_machine.specs.Meanings.{Meaning}
+use Rattle.jdwp_layout.specs.Meanings.{DatumMeaning}
+use Rattle.jdwp_layout.specs.Shapes.{ItemShape}
 use Rattle.jdwp_action.specs.Actions
 use Rattle.jdwp_action.specs.Actions.{Action, Command, action_of}
 use Rattle.jdwp_debuggee.specs.Answers.{content_of}
 use Rattle.jdwp_debuggee.specs.Askings.{Asking, asking_of, is_short}
 use Rattle.jdwp_layout.specs.CommandNumbers.{STACK_FRAME, FRAMES, FRAME_COUNT, is_command}
 use Rattle.jdwp_debuggee.specs.Refusals.{is_some_count, kind_refusal, modifiers_refusal, or_else, room_refusal, shape_refusal, unless}
+use Rattle.jdwp_debuggee.specs.Invoking.{data_in}
+use Rattle.jdwp_debuggee.specs.Strings.{makes_string, text_in}
 use Rattle.jdwp_debuggee.specs.Settings.{Settings}
 use Rattle.jdwp_debuggee.specs.State.{State, Moment, count_of}
 
@@ -50,8 +55,22 @@ abbrev pub AsksData : {S : Type 0} → Meaning S → S → Option Query → Type
 AsksData m s None = ⊥
 AsksData m s (Some query) = IsTrue (takes_memory (m.query s query))
 
+-- The same, where an invocation wants memory to read its data: one whose data do not read wants none.
+abbrev pub ReadsOrAsks : {S : Type 0} → Meaning S → S → Query → Option (List ItemShape) → Type 0
+ReadsOrAsks m s query None = IsTrue (takes_memory (m.query s query))
+ReadsOrAsks m s query (Some shapes) = (content : List DatumMeaning) × (data_in (m.sizes s) shapes query.content ≡ Ok content)
+
+-- the same, where a string that the machine makes wants memory
+abbrev pub MakesOrAsks : {S : Type 0} → Meaning S → S → Query → Bool → Type 0
+MakesOrAsks m s query true = IsTrue (takes_memory (m.made_answer s (text_in query.content)))
+MakesOrAsks m s query false = ReadsOrAsks m s query (invocation_request query.set query.number)
+
+abbrev pub AsksMachine : {S : Type 0} → Meaning S → S → Option Query → Type 0
+AsksMachine m s None = ⊥
+AsksMachine m s (Some query) = MakesOrAsks m s query (makes_string query)
+
 -- An action may want memory: Exit where threads live; a Set that is not refused before its modifiers; and what the machine is asked,
--- where the thread is as it has to be and the machine does not refuse it. No other action wants any.
+-- where the thread is as it has to be and the machine does not refuse it, or the data of an invocation read. No other action wants any.
 abbrev pub MayWant : {S : Type 0} → Meaning S → Settings → Moment S → Option Query → Action → Type 0
 MayWant m settings now question Actions.Exit = m.live now.machine ≡ [] → ⊥
 MayWant m settings now question (Actions.SetRequest byte policy entries) = early_refusal settings now.state byte policy ≡ None
@@ -59,7 +78,7 @@ MayWant m settings now question (Actions.SetSlots t f values) = (is_suspended no
 MayWant m settings now question (Actions.AskFrames t) = (is_suspended now.state t ≡ true) × AsksData m now.machine question
 MayWant m settings now question (Actions.AskThread t) = (is_live now.state t ≡ true) × AsksData m now.machine question
 MayWant m settings now question Actions.AllThreads = length now.state.threads ≤ settings.limits.packet
-MayWant m settings now question Actions.Ask = AsksData m now.machine question
+MayWant m settings now question Actions.Ask = AsksMachine m now.machine question
 MayWant m settings now question action = ⊥
 
 -- the same of what was asked for
@@ -90,7 +109,7 @@ own_refusal settings state action = None
 
 -- the command carries data, which are kept where they are read
 abbrev pub CarriesData : Command → Type 0
-CarriesData c = content_of c.carried ≡ [] → ⊥
+CarriesData c = content_of c.set c.number c.carried ≡ [] → ⊥
 
 -- Memory may be wanted to read a command and to carry it out: it is none of those that are read without memory, the debuggee does not refuse it
 -- by itself, and it carries data, or what it asks for may want memory.

@@ -6,6 +6,7 @@ ghost use Rattle.jdwp_debuggee.specs.Replies.{reply_meaning};
 
 use crate::debuggee::Debuggee;
 use crate::reply::Reply;
+use crate::stopped::keep_stopped;
 use jdwp_machine::Machine;
 use jdwp_value::ObjectId;
 use jdwp_wire::ErrorCode;
@@ -28,6 +29,7 @@ impl<M: Machine> Debuggee<M> {
         ensures { CarriesOut M.meaning action.Resume self.old self.new (reply_meaning result) }
     {
         self.threads.lower_all();
+        keep_stopped(&mut self.stopped, &self.threads);
         Reply::Done
     }
 
@@ -91,6 +93,7 @@ impl<M: Machine> Debuggee<M> {
             return Reply::Refused(ErrorCode::INVALID_THREAD);
         }
         self.threads.lower(thread);
+        keep_stopped(&mut self.stopped, &self.threads);
         Reply::Done
     }
 

@@ -12,6 +12,7 @@ ghost use Rattle.jdwp_debuggee.specs.Wants.{MayWantFor};
 use crate::command::Action;
 use crate::debuggee::Debuggee;
 use crate::reply::{Reply, Sent};
+use crate::strings::{makes_string, text_in};
 use jdwp_machine::Machine;
 use jdwp_wire::NoMemory;
 use std::alloc::Global;
@@ -98,6 +99,9 @@ impl<M: Machine> Debuggee<M> {
             Action::AskFrames(thread, query) => self.ask_frames(alloc, thread, &query),
             Action::AskThread(thread, query) => self.ask_thread(alloc, thread, &query),
             Action::AllThreads => self.ask_all_threads(alloc),
+            Action::Ask(query) if makes_string(&query) => {
+                self.make_string(text_in(&query.content))
+            }
             Action::Ask(query) => self.ask(alloc, &query),
         }
     }

@@ -35,10 +35,13 @@ pub struct Debuggee<M: Machine> {
     pub(crate) alive: bool,
     pub(crate) next_request: u32,
     pub(crate) next_packet: u32,
+    /// The threads that an event stopped, and that are suspended since.
+    pub(crate) stopped: Vec<ObjectId>,
 }
 
 impl<M: Machine> Model for Debuggee<M> {
     ghost use Rattle.jdwp_debuggee.specs.Debuggees.{Debuggee, IsKept};
+    ghost use Rattle.jdwp_machine.specs.Meanings.{numbers};
 
     ghost Value = { Debuggee M };
 
@@ -53,6 +56,7 @@ impl<M: Machine> Model for Debuggee<M> {
           alive = d.alive;
           next_request = d.next_request;
           next_packet = d.next_packet;
+          stopped = numbers d.stopped.items;
         };
         machine = d.machine;
       };
@@ -70,6 +74,7 @@ impl<M: Machine> Model for Debuggee<M> {
           alive = d.alive;
           next_request = d.next_request;
           next_packet = d.next_packet;
+          stopped = numbers d.stopped.items;
         };
         machine = d.machine;
       };
@@ -117,6 +122,7 @@ impl<M: Machine> Debuggee<M> {
             alive: true,
             next_request: 1,
             next_packet: 1,
+            stopped: Vec::new(alloc),
         })
     }
 
@@ -183,12 +189,14 @@ impl<M: Machine> Debuggee<M> {
         self.machine.sizes()
     }
 
-    /// The end of a session, by Dispose or by a loss: every suspend count is 0, there are no requests, and events are not held.
+    /// The end of a session, by Dispose or by a loss: every suspend count is 0, no event stopped anybody, there are no requests, and events are not
+    /// held.
     pub fn reset(&mut self)
         ensures { self.new ≡ with_state (spec.reset self.old.moment.state) self.old }
     {
         self.threads.clear_counts();
         self.requests.clear();
+        self.stopped.clear();
         self.held = false;
     }
 

@@ -7,14 +7,19 @@ ghost use Rattle.jdwp_action.specs.Actions.{Command, action_of, IdSizes, SetRequ
 ghost use Rattle.jdwp_debuggee.specs.Effects.{effect};
 ghost use Rattle.jdwp_debuggee.specs.Breadth.{is_plain, keeps_machine};
 ghost use Rattle.jdwp_action.specs.AnswerPackets.{sizes_answer};
-ghost use Rattle.jdwp_debuggee.specs.Answers.{IsLeastThread, least_thread};
-ghost use Rattle.jdwp_debuggee.specs.Facts.{Facts, is_data};
+ghost use Rattle.jdwp_debuggee.specs.Answering.{is_answered, with_bytes};
+ghost use Rattle.jdwp_debuggee.specs.Answers.{IsLeastThread, least_thread, query_of};
+ghost use Rattle.jdwp_debuggee.specs.Facts.{Facts, IsSound, is_data};
+ghost use Rattle.jdwp_debuggee.specs.InvocationLaws.{Invokes};
 ghost use Rattle.jdwp_debuggee.specs.Reports.{HavePolicies, IsReport};
 ghost use Rattle.jdwp_debuggee.specs.Sending.{FitsPacket};
 ghost use Rattle.jdwp_debuggee.specs.Steps.{may_step, occurs};
 ghost use Rattle.jdwp_event.specs.Composites.{CompositeMeaning, POLICY_ALL, vm_death};
 ghost use Rattle.jdwp_event.specs.Requests.{all_asked};
 ghost use Rattle.jdwp_layout.specs.Meanings.{ScalarMeaning};
+ghost use Rattle.jdwp_layout.specs.Reads.{data_at};
+ghost use Rattle.jdwp_layout.specs.Shapes.{ItemShape};
+ghost use Rattle.jdwp_machine.specs.Invocations.{invocation_request};
 ghost use Rattle.jdwp_wire.specs.Widths.{Widths};
 ghost use Rattle.jdwp_wire.specs.Limits.{least_packet_limit};
 ghost use Rattle.jdwp_debuggee.specs.Running.{Runs};
@@ -33,10 +38,23 @@ pub fn leaves_state_at_plain_commands<M: Machine>()
         → (effect M.meaning settings now c).after.state ≡ now.state }
 {}
 
-/// Of all commands Exit and StackFrame.SetValues alone change the machine.
-pub fn changes_machine_at_exit_and_slots<M: Machine>()
-    ensures { (settings : Settings) (now : Moment M) (c : Command) → keeps_machine (action_of c)
+/// Of all commands Exit, StackFrame.SetValues and VirtualMachine.CreateString alone change the machine.
+pub fn changes_machine_at_exit_slots_and_strings<M: Machine>()
+    ensures { (settings : Settings) (now : Moment M) (c : Command) → keeps_machine c
         ≡ true → (effect M.meaning settings now c).after.machine ≡ now.machine }
+{}
+
+/// An invocation of a method, where the profile answers it, moves no suspend count, and no thread makes a step for it. It is refused with
+/// `ILLEGAL_ARGUMENT` where its data do not read, with `INVALID_THREAD` exactly where its thread is not alive, and with
+/// `THREAD_NOT_SUSPENDED` exactly where the thread lives and no event stopped it; else it is answered what the machine says.
+pub fn answers_invocations<M: Machine>()
+    ensures { (settings : Settings) (now : Moment M) (set number : ℕ) (bytes : List ℕ) (shapes : List
+        ItemShape) → IsSound M.meaning settings now
+        → is_answered settings.profile (with_bytes set number bytes) ≡ true
+        → invocation_request set number ≡ Some shapes
+        → Invokes M.meaning settings now (query_of (with_bytes set number bytes))
+        (data_at (M.meaning.sizes now.machine) shapes bytes)
+        (effect M.meaning settings now (with_bytes set number bytes)) }
 {}
 
 /// IDSizes is never refused: it is answered the widths of the machine's ids.

@@ -16,6 +16,8 @@ mod reply;
 mod requesting;
 mod settings;
 mod steps;
+mod stopped;
+mod strings;
 mod threads;
 
 pub use command::{Action, ParsedCommand};

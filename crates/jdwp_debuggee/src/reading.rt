@@ -1,11 +1,11 @@
 //! Reading commands: those that carry little without memory, and all others by the table of commands
 //! (JDWP specification, "Protocol Details").
-ghost use Rattle.std.specs.Prelude.{◌≡◌, ℕ, Result, ◌∷◌, [], true, false, List, IfOk, IfErr, IfSome, MatchOption, Some, None};
+ghost use Rattle.std.specs.Prelude.{◌≡◌, ℕ, Result, ◌∷◌, [], true, false, List, IfOk, IfErr, IfSome, MatchOption, Some, None, if◌then◌else◌};
 ghost use Rattle.jdwp_wire.specs.Widths.{Widths};
 ghost use Rattle.jdwp_wire.specs.declared.data_fault.DataFault.{DataFault};
 ghost use Rattle.jdwp_wire.specs.declared.data_fault.DataFault.TheVariants.{NoMemory as WantOfMemory};
 ghost use Rattle.jdwp_wire.specs.Reading.{Fails};
-ghost use Rattle.jdwp_layout.specs.Meanings.{DatumMeaning};
+ghost use Rattle.jdwp_layout.specs.Meanings.{DatumMeaning, Raw, meanings};
 ghost use Rattle.jdwp_action.specs.CommandReads.{command_read, content_read};
 ghost use Rattle.jdwp_debuggee.specs.Askings.{action_meaning, asked_meaning, asking, asks, carries_nothing, is_short};
 ghost use Rattle.jdwp_action.specs.RowLayouts.{found_layout};
@@ -21,7 +21,8 @@ use jdwp_layout::numbers::{
     RELEASE_EVENTS, RESUME, RESUME_THREAD, SUSPEND, SUSPEND_COUNT, SUSPEND_THREAD,
     THREAD_REFERENCE, THREAD_STATUS, VIRTUAL_MACHINE,
 };
-use jdwp_layout::{Data, Layout, layout_of, read};
+use jdwp_layout::{Data, Datum, Layout, layout_of, read};
+use jdwp_machine::invocation::request_layout;
 use jdwp_machine::{Profile, Query};
 use jdwp_value::ObjectId;
 use jdwp_wire::{DataFault, ErrorCode, IdSizes, NoMemory, Wire};
@@ -174,26 +175,56 @@ pub(crate) fn request_of(profile: Profile, set: u8, number: u8) -> Option<Layout
     Some(layouts.request)
 }
 
-/// What a command comes to whose data are not read in the profile: a raw one that is answered is a question with no data, and another is
-/// refused.
-fn unread(alloc: Global, profile: Profile, set: u8, number: u8) -> ParsedCommand
-    ensures { (w : Widths) (bytes : List ℕ) → answered_request profile set number ≡ None
-        → asked_meaning result ≡ asks (read_as profile w set number bytes) }
+/// What a command comes to whose data are not read in the profile: a raw one that is answered is a question with no data, or an invocation
+/// with its bytes, and another is refused.
+///
+/// # Errors
+/// `NoMemory` where an allocation was refused, and only for an invocation.
+fn unread(
+    alloc: Global,
+    profile: Profile,
+    set: u8,
+    number: u8,
+    bytes: &[u8],
+) -> Result<ParsedCommand, NoMemory>
+    ensures value { (w : Widths) → answered_request profile set number ≡ None
+        → IfOk result (λ asked. asked_meaning asked
+        ≡ asks (read_as profile w set number bytes.now)) }
+    ensures reads { (w : Widths) → answered_request profile set number ≡ None
+        → IfErr result (λ _. ReadsData (read_as profile w set number bytes.now)) }
 {
     if !profile.adds_raw(set, number) {
-        return ParsedCommand::Refuses(ErrorCode::NOT_IMPLEMENTED);
+        return Ok(ParsedCommand::Refuses(ErrorCode::NOT_IMPLEMENTED));
     }
-    ParsedCommand::Carries(Action::Ask(Query {
+    let items = kept_bytes(alloc, request_layout(set, number).is_some(), bytes)?;
+    Ok(ParsedCommand::Carries(Action::Ask(Query {
         set,
         number,
-        content: Data::new(Vec::new(alloc)),
-    }))
+        content: Data::new(items),
+    })))
+}
+
+/// These bytes as data that are not read, where they are kept; else no data.
+///
+/// # Errors
+/// `NoMemory` where an allocation was refused, and only where they are kept.
+fn kept_bytes(alloc: Global, are_kept: bool, bytes: &[u8]) -> Result<Vec<Datum>, NoMemory>
+    ensures value { IfOk result (λ items. meanings items.items
+        ≡ if are_kept then Raw bytes.now ∷ [] else []) }
+    ensures memory { IfErr result (λ _. are_kept ≡ true) }
+{
+    if !are_kept {
+        return Ok(Vec::new(alloc));
+    }
+    let kept = Vec::from_slice(alloc, bytes)?;
+    Ok(vec![in alloc; Datum::Raw(kept)]?)
 }
 
 /// What a command of this set and number comes to in the profile that has these bytes as its data.
 ///
 /// A command that is not answered in the profile is refused with `NOT_IMPLEMENTED`, and its data are not read; one whose data do not read, or
-/// leave bytes over, with `ILLEGAL_ARGUMENT`. The data of a raw one that is answered are not read. These take no memory: VirtualMachine's Suspend, Resume, HoldEvents, ReleaseEvents,
+/// leave bytes over, with `ILLEGAL_ARGUMENT`. The data of a raw one that is answered are not read
+/// here. These take no memory: VirtualMachine's Suspend, Resume, HoldEvents, ReleaseEvents,
 /// IDSizes and Dispose; ThreadReference's Suspend, Resume, Status and SuspendCount; EventRequest's Clear and ClearAllBreakpoints. What
 /// these ask for is carried out without memory, too.
 ///
@@ -220,7 +251,7 @@ pub fn read_command(
         return Ok(asked);
     }
     let Some(layout) = request_of(profile, set, number) else {
-        return Ok(unread(alloc, profile, set, number));
+        return unread(alloc, profile, set, number, bytes);
     };
     match read(alloc, &layout, sizes, bytes) {
         Ok(items) => {

@@ -1,4 +1,5 @@
 //! What commands are answered.
+use jdwp_value::ObjectId;
 use jdwp_wire::{ErrorCode, IdSizes};
 
 /// What a command is answered, where that takes no memory.
@@ -23,4 +24,6 @@ pub enum Sent {
     Short(Reply),
     /// Data, as they are written.
     Written(Vec<u8>),
+    /// An object's id, which takes no memory either.
+    Object(ObjectId),
 }

@@ -13,6 +13,7 @@ ghost use Rattle.jdwp_debuggee.specs.Visits.{visits_at, visits_for};
 ghost use Rattle.jdwp_debuggee.specs.StepParts.{AreFew, HasRoom, SendFits, Steps, StepsOrNot, is_full_by, is_ready, is_still, number_of, packet_after, raised_for, unless_last, with_new};
 
 use crate::debuggee::Debuggee;
+use crate::stopped::{make_stop_room, stop_for};
 use crate::threads::Threads;
 use jdwp_event::{Composite, Happening, Occurrence, Policy, Requests, count_gathered, gather};
 use jdwp_machine::{Machine, has_run_out};
@@ -224,7 +225,7 @@ impl<M: Machine> Debuggee<M> {
         }
         let sends = gather(alloc, &self.requests, happening)?;
         if has_run_out(happening) {
-            return Ok(Some(self.run_out(thread, happening, sends)));
+            return Ok(Some(self.run_out(thread, happening, sends)?));
         }
         self.advance(thread, happening, &sends)?;
         Ok(Some(StepDone {
@@ -235,29 +236,35 @@ impl<M: Machine> Debuggee<M> {
     }
 
     /// The step of a thread that has run out: it ends, or its death is reported.
+    ///
+    /// # Errors
+    /// `NoMemory` where an allocation was refused; then nothing has changed.
     fn run_out(
         &mut self,
         thread: ObjectId,
         happening: &Happening,
         sends: Option<Composite>,
-    ) -> StepDone
+    ) -> Result<StepDone, NoMemory>
         requires may { may_step M.meaning self.old.settings self.old.moment thread.0 ≡ true }
         requires unmarked { is_marked self.old.moment.state thread.0 ≡ false }
         requires next { happening.now ≡ M.meaning.next self.old.moment.machine thread.0 }
         requires runs_out { runs_out happening.now ≡ true }
         requires sends { sends ≡ gathered happening.now self.old.moment.state.requests }
-        ensures { Steps M.meaning thread.0 self.old self.new result }
+        ensures ok { IfOk result (λ done. Steps M.meaning thread.0 self.old self.new done) }
+        ensures err { OnErr result (self.new ≡ self.old) }
     {
+        make_stop_room(&mut self.stopped, &sends)?;
         count_gathered(&mut self.requests, happening, &sends);
+        stop_for(&mut self.stopped, &sends, happening.thread());
         if let Some(composite) = sends {
             suspend_by(&mut self.threads, composite.policy(), happening.thread());
             self.threads.mark(thread);
             self.next_packet = self.next_packet.wrapping_add(1);
-            return StepDone {
+            return Ok(StepDone {
                 sends: Some(composite),
                 ends: false,
                 dies: false,
-            };
+            });
         }
         let dies = end_thread(
             &mut self.machine,
@@ -266,11 +273,11 @@ impl<M: Machine> Debuggee<M> {
             thread,
         );
         self.alive = !dies;
-        StepDone {
+        Ok(StepDone {
             sends: None,
             ends: true,
             dies,
-        }
+        })
     }
 
     /// Any other step, by which `sends` is sent.
@@ -292,10 +299,12 @@ impl<M: Machine> Debuggee<M> {
         let started = thread_started(happening);
         let _live = self.settings.limits().live();
         make_room(&mut self.threads, started)?;
+        make_stop_room(&mut self.stopped, sends)?;
         self.machine.step(thread)?;
         add_started(&mut self.threads, started);
         count_gathered(&mut self.requests, happening, sends);
         suspend_for(&mut self.threads, sends, happening.thread());
+        stop_for(&mut self.stopped, sends, happening.thread());
         self.next_packet = id_after(self.next_packet, sends);
         Ok(())
     }

@@ -5,7 +5,7 @@ ghost use Rattle.std.specs.List.{filter};
 ghost use Rattle.jdwp_machine.specs.Meanings.{numbers};
 ghost use Rattle.jdwp_debuggee.specs.Entries.{AllAtMost, all_marked, ids_of, least_of, place_from, stands_at, threads_of};
 ghost use Rattle.jdwp_debuggee.specs.State as spec;
-ghost use Rattle.jdwp_debuggee.specs.State.{changed, cleared, is_marked_by, is_other, lowered, marked, only, raised, running, thread_in};
+ghost use Rattle.jdwp_debuggee.specs.State.{changed, cleared, is_above_zero, is_marked_by, is_other, lowered, marked, only, raised, running, thread_in};
 ghost use Rattle.jdwp_debuggee.specs.Refusals.{is_some_count};
 ghost use Rattle.jdwp_debuggee.specs.Answers.{first_of, rising};
 ghost use Rattle.jdwp_debuggee.specs.Sending.{place_in};
@@ -202,6 +202,16 @@ impl Threads {
         ensures { result ≡ is_some_count (spec.count_in self.now.list thread.0) }
     {
         self.count(thread).is_some()
+    }
+
+    /// Whether a thread is alive and suspended.
+    pub(crate) fn is_suspended(&self, thread: ObjectId) -> bool
+        ensures { result ≡ is_above_zero (spec.count_in self.now.list thread.0) }
+    {
+        match self.count(thread) {
+            Some(count) => count != 0,
+            None => false,
+        }
     }
 
     /// Whether a thread's death was reported.

@@ -25,7 +25,7 @@ fn rests_on_laws<M: Machine>()
     ensures { Rests M.meaning }
 {
     jdwp_debuggee::laws::moves_counts_and_requests::<M>();
-    jdwp_debuggee::laws::changes_machine_at_exit_and_slots::<M>();
+    jdwp_debuggee::laws::changes_machine_at_exit_slots_and_strings::<M>();
     jdwp_debuggee::laws::answers_id_sizes::<M>();
     jdwp_debuggee::laws::accepts_the_three_policies::<M>();
     jdwp_debuggee::laws::reports_one_thread::<M>();

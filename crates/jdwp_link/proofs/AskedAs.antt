@@ -11,14 +11,14 @@ use Rattle.jdwp_layout.specs.Writes.{data_canonical}
 use Rattle.jdwp_layout.proofs.GrammarLaws.{data_again}
 use Rattle.jdwp_machine.specs.declared.profile.Profile.{Profile}
 use Rattle.jdwp_machine.specs.declared.profile.Profile.TheVariants.{Standard, Jdi}
-use Rattle.jdwp_machine.specs.Profiles.{SOURCE_DEBUG_EXTENSION, OWNED_MONITORS, CONTENDED_MONITOR, is_added, adds, adds_raw}
+use Rattle.jdwp_machine.specs.Profiles.{CREATE_STRING, SOURCE_DEBUG_EXTENSION, OWNED_MONITORS, CONTENDED_MONITOR, is_added, adds, adds_raw}
 use Rattle.jdwp_action.specs.Actions.{Carried, Content, Raw, Command, is_implemented, is_some_shapes}
 use Rattle.jdwp_action.specs.CommandPackets.{carried_bytes}
 use Rattle.jdwp_action.specs.CommandReads.{content_read}
 use Rattle.jdwp_action.specs.RowLayouts.{row_request, shapes_request}
 use Rattle.jdwp_debugger.specs.Asking.{EncodesCommand, EncodesRow, EncodesShapes, ReadsAsAsked, read_where}
 use Rattle.jdwp_debuggee.specs.Answering.{is_answered, read_as}
-use Rattle.jdwp_debuggee.proofs.Read.{raw_place}
+use Rattle.jdwp_debuggee.proofs.Read.{raw_cases}
 
 -- ---- rows that a profile adds have layouts
 
@@ -42,11 +42,14 @@ at_row k set number shapes h =
 
 added_row : (p : Profile) (set number : ℕ) → adds p set number ≡ true → has_shapes (row_at set number) ≡ true
 added_row Standard set number h = absurd (false≢true h)
-added_row Jdi set number h = elim (either (is_command SOURCE_DEBUG_EXTENSION set number) _ h) [
-  | inl k ↦ at_row SOURCE_DEBUG_EXTENSION set number refl k
-  | inr k ↦ elim (either (is_command OWNED_MONITORS set number) _ k) [
-    | inl l ↦ at_row OWNED_MONITORS set number refl l
-    | inr l ↦ at_row CONTENDED_MONITOR set number refl l
+added_row Jdi set number h = elim (either (is_command CREATE_STRING set number || is_command SOURCE_DEBUG_EXTENSION set number) _ h) [
+  | inl first ↦ elim (either (is_command CREATE_STRING set number) _ first) [
+    | inl k ↦ at_row CREATE_STRING set number refl k
+    | inr k ↦ at_row SOURCE_DEBUG_EXTENSION set number refl k
+  ]
+  | inr other ↦ elim (either (is_command OWNED_MONITORS set number) _ other) [
+    | inl k ↦ at_row OWNED_MONITORS set number refl k
+    | inr k ↦ at_row CONTENDED_MONITOR set number refl k
   ]
 ]
 
@@ -68,7 +71,7 @@ by_row w set number (Some row) carried some h = by_shapes w set number row.shape
 
 -- what a raw command carries is its bytes
 raw_row : (p : Profile) (set number : ℕ) → adds_raw p set number ≡ true → has_shapes (row_at set number) ≡ false
-raw_row p set number h = let is = raw_place p set number h in rw (is.0, is.1) refl
+raw_row p set number h = raw_cases p set number (λ (s n : ℕ). has_shapes (row_at s n) ≡ false) refl refl refl refl h
 
 raw_by : (w : Widths) (shapes : Option RowShapes) (carried : Carried) → is_some_shapes shapes ≡ false → EncodesShapes w shapes carried → Raw (carried_bytes w carried) ≡ carried
 raw_by w None (Raw bytes) none h = refl

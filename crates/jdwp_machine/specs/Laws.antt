@@ -23,6 +23,7 @@ use Rattle.jdwp_event.specs.Composites.{POLICY_NONE}
 use Rattle.jdwp_event.specs.Occurrences.{OccurrenceMeaning, Moved, Entered, Left, Threw, Prepared, Started, RanOut, started, runs_out}
 use Rattle.jdwp_machine.specs.declared.query.Query.{Query}
 use Rattle.jdwp_machine.specs.Meanings.{Meaning, has}
+use Rattle.jdwp_machine.specs.Profiles.{CREATE_STRING}
 
 -- ---- words of the laws
 
@@ -147,11 +148,20 @@ pub record IsLawful {S : Type 0} (m : Meaning S) : Type 0 where
   pub live_written : (s : S) (t f : ℕ) (values : List (ℤ × Value)) (u : ℕ) → m.is_state s → has (m.live (m.written s t f values)) u ≡ has (m.live s) u
   pub ever_written : (s : S) (t f : ℕ) (values : List (ℤ × Value)) (u : ℕ) → m.is_state s → m.ever (m.written s t f values) u ≡ m.ever s u
   pub refused_write : (s : S) (t f : ℕ) (values : List (ℤ × Value)) (e : ErrorCode) → m.is_state s → m.write_answer s t f values ≡ Error e → m.written s t f values ≡ s
+  -- Making a string starts and ends nobody, leaves what threads do next, and where it is refused nothing changes.
+  pub state_made : (s : S) (text : List ℕ) → m.is_state s → m.is_state (m.made s text)
+  pub live_made : (s : S) (text : List ℕ) (u : ℕ) → m.is_state s → has (m.live (m.made s text)) u ≡ has (m.live s) u
+  pub ever_made : (s : S) (text : List ℕ) (u : ℕ) → m.is_state s → m.ever (m.made s text) u ≡ m.ever s u
+  pub next_made : (s : S) (text : List ℕ) (t : ℕ) → MayEnds m s t → m.next (m.made s text) t ≡ m.next s t
+  pub refused_make : (s : S) (text : List ℕ) (e : ErrorCode) → m.is_state s → m.made_answer s text ≡ Error e → m.made s text ≡ s
   -- The widths of ids are 1 to 8, and never change.
   pub sizes_are_widths : (s : S) → m.is_state s → AreWidths (m.sizes s).field (m.sizes s).method (m.sizes s).object (m.sizes s).reference (m.sizes s).frame
   pub sizes_stepped : (s : S) (t : ℕ) → MaySteps m s t → m.sizes (m.stepped s t) ≡ m.sizes s
   pub sizes_ended : (s : S) (t : ℕ) → MayEnds m s t → m.sizes (m.ended s t) ≡ m.sizes s
   pub sizes_written : (s : S) (t f : ℕ) (values : List (ℤ × Value)) → m.is_state s → m.sizes (m.written s t f values) ≡ m.sizes s
+  pub sizes_made : (s : S) (text : List ℕ) → m.is_state s → m.sizes (m.made s text) ≡ m.sizes s
+  -- What is answered of a thread's frames stays where a string is made.
+  pub frames_made : (s : S) (text : List ℕ) (u : ℕ) (q : Query) → m.is_state s → asks_frames q u ≡ true → m.query (m.made s text) q ≡ m.query s q
   -- What is answered of a thread's frames stays at a step, at an end and at a write of another thread, and at a write of its own
   -- but for the values of slots: which questions for them are refused stays, and how many are answered.
   pub frames_stepped : (s : S) (t u : ℕ) (q : Query) → MaySteps m s t → t ≢ u → asks_frames q u ≡ true → m.query (m.stepped s t) q ≡ m.query s q
@@ -162,6 +172,7 @@ pub record IsLawful {S : Type 0} (m : Meaning S) : Type 0 where
   -- Data are in the layout of the row's reply, or bytes where the row is raw; and errors are a machine's.
   pub answers : (s : S) (q : Query) → m.is_state s → MayAnswer m s q.set q.number (m.query s q)
   pub write_answers : (s : S) (t f : ℕ) (values : List (ℤ × Value)) → m.is_state s → MayAnswer m s SET_SLOTS.set SET_SLOTS.number (m.write_answer s t f values)
+  pub make_answers : (s : S) (text : List ℕ) → m.is_state s → MayAnswer m s CREATE_STRING.set CREATE_STRING.number (m.made_answer s text)
   pub short_signature : (s : S) (t : ℕ) → MayEnds m s t → HasShortSignature (m.next s t).occurrence
   -- Ids of live threads and of happenings fit their widths.
   pub live_fits : (s : S) (t : ℕ) → m.is_state s → has (m.live s) t ≡ true → id_refusal (m.sizes s).object t ≡ None

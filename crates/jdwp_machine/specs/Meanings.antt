@@ -36,3 +36,6 @@ pub record Meaning (S : Type 0) : Type 1 where
   -- what writing these slots of a frame of a thread is answered, and the state after it
   pub write_answer : S → ℕ → ℕ → List (ℤ × Value) → Answer
   pub written : S → ℕ → ℕ → List (ℤ × Value) → S
+  -- what making a string of this text is answered, and the state after it
+  pub made_answer : S → List ℕ → Answer
+  pub made : S → List ℕ → S

@@ -1,6 +1,7 @@
 //! What a target runs: the trait `Machine` with its laws.
 #![tactic(auto)]
 
+pub mod invocation;
 pub mod laws;
 mod live;
 mod machine;

@@ -77,6 +77,18 @@ pub trait Machine {
         ensures memory { IfErr result (λ _.
             IsTrue (takes_memory (meaning.write_answer self.old thread.0 frame.0 values.now))) };
 
+    /// Makes an object that is a string of this text (VirtualMachine.CreateString), and answers its id. No thread steps, and no frame changes.
+    ///
+    /// # Errors
+    /// `NoMemory` where an allocation was refused; then nothing has changed. A refusal takes no memory.
+    fn make_string(&mut self, text: &str) -> Result<Answer, NoMemory>
+        ensures ok { IfOk result (λ answer. (answer ≡ meaning.made_answer self.old text.now)
+            × (self.new ≡ meaning.made self.old text.now)) }
+        ensures err { OnErr result (self.new ≡ self.old) }
+        // A refusal takes no memory.
+        ensures memory { IfErr result (λ _.
+            IsTrue (takes_memory (meaning.made_answer self.old text.now))) };
+
     /// What every machine keeps.
     ghost lawful: { IsLawful meaning };
 }

@@ -2,7 +2,11 @@
 ghost use Rattle.std.specs.Prelude.{◌≡◌};
 ghost use Rattle.jdwp_machine.specs.Profiles.{adds, adds_raw, is_added};
 
+use crate::invocation::request_layout;
 use jdwp_layout::numbers::{REFERENCE_TYPE, THREAD_REFERENCE, VIRTUAL_MACHINE};
+
+/// The number of VirtualMachine.CreateString.
+pub const CREATE_STRING: u8 = 11;
 
 /// The number of VirtualMachine.ClassPaths.
 pub const CLASS_PATHS: u8 = 13;
@@ -22,7 +26,8 @@ pub enum Profile {
     /// Nothing more.
     Standard,
     /// What debuggers over the Java Debug Interface ask for, as jdb and IDEs: a CLASS_UNLOAD may be requested and never happens, threads
-    /// and thread groups have a class, every class is in a module, and three starred commands are answered, and a raw one.
+    /// and thread groups have a class, every class is in a module, and four starred commands are answered, and a raw one, and
+    /// invocations of methods.
     Jdi,
 }
 
@@ -37,14 +42,17 @@ impl Profile {
         }
     }
 
-    /// Whether a raw command of this set and number is answered in the profile. Its data are not read, whatever they are, and what it is
-    /// answered is bytes: VirtualMachine.ClassPaths, in `Jdi`.
+    /// Whether a raw command of this set and number is answered in the profile, by bytes: in `Jdi` VirtualMachine.ClassPaths, whatever its
+    /// data are, and invocations of methods (`invocation`).
     pub fn adds_raw(self, set: u8, number: u8) -> bool
         ensures { result ≡ adds_raw self set number }
     {
         match self {
             Profile::Standard => false,
-            Profile::Jdi => set == VIRTUAL_MACHINE && number == CLASS_PATHS,
+            Profile::Jdi => {
+                set == VIRTUAL_MACHINE && number == CLASS_PATHS
+                    || request_layout(set, number).is_some()
+            }
         }
     }
 }
@@ -53,6 +61,7 @@ fn is_added(set: u8, number: u8) -> bool
     ensures { result ≡ is_added set number }
 {
     match set {
+        VIRTUAL_MACHINE => number == CREATE_STRING,
         REFERENCE_TYPE => number == SOURCE_DEBUG_EXTENSION,
         THREAD_REFERENCE => number == OWNED_MONITORS || number == CONTENDED_MONITOR,
         _ => false,

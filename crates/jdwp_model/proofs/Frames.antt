@@ -1,23 +1,27 @@
 -- what commands and steps leave of what is answered of a suspended thread's frames
-use Rattle.std.proofs.Common.{◌≡◌, ◌≢◌, ℕ, zero, suc, ◌==◌, ◌<◌, Bool, true, false, ◌||◌, ◌&&◌, cond, Option, Some, None, List, ◌∷◌, refl, sym, ◌∙◌, ap, subst, arith, is_some}
+use Rattle.std.proofs.Common.{◌≡◌, ◌≢◌, ℕ, zero, suc, ◌==◌, ◌<◌, Bool, true, false, ◌||◌, ◌&&◌, not, cond, if◌then◌else◌, Option, Some, None, List, [], ◌∷◌, refl, sym, ◌∙◌, ap, subst, arith, is_some}
 use Rattle.std.proofs.lemmas.Bool.{eqb-true, eq-eqb, false_from_ne_true}
 use Rattle.jdwp_wire.specs.ErrorCodes.{THREAD_NOT_SUSPENDED}
 use Rattle.jdwp_layout.specs.declared.answer.Answer.TheVariants.{Data, Error}
 use Rattle.jdwp_layout.specs.CommandNumbers.{CommandNumber, is_command, FRAMES, FRAME_COUNT, GET_SLOTS, THIS_OBJECT}
+use Rattle.jdwp_layout.specs.Meanings as meaning
 use Rattle.jdwp_layout.specs.Meanings.{Object, DatumMeaning, One}
 use Rattle.jdwp_event.specs.Composites.{CompositeMeaning, gathered}
 use Rattle.jdwp_event.specs.Occurrences.{HappeningMeaning, runs_out}
 use Rattle.jdwp_machine.specs.declared.query.Query.{Query}
+use Rattle.jdwp_machine.specs.Invocations.{is_invocation}
 use Rattle.jdwp_machine.specs.Meanings.{Meaning, has}
 use Rattle.jdwp_machine.specs.Laws.{IsLawful, asks_frames, begins_with}
+use Rattle.jdwp_machine.specs.Profiles.{CREATE_STRING}
 use Rattle.jdwp_debuggee.specs.Settings.{Settings}
 use Rattle.jdwp_debuggee.specs.State.{State, Moment, count_of, count_or_zero, or_zero, is_marked}
 use Rattle.jdwp_action.specs.Actions
 use Rattle.jdwp_debuggee.specs.Answering.{is_answered}
 use Rattle.jdwp_action.specs.Actions.{Carried, Content, Raw, Command, Action, action_of, action_by, first_object, object_in}
 use Rattle.jdwp_debuggee.specs.Answers.{query_of, content_of, bounded}
-use Rattle.jdwp_debuggee.specs.Effects.{effect, effect_by, does, slots_by, slots_at, answer_frames}
-use Rattle.jdwp_debuggee.specs.Breadth.{keeps_machine}
+use Rattle.jdwp_debuggee.specs.Effects.{asks_by, effect, effect_by, does, slots_by, slots_at, answer_frames}
+use Rattle.jdwp_debuggee.specs.Breadth.{keeps_machine, leaves_machine}
+use Rattle.jdwp_debuggee.specs.Strings.{makes_string, text_in}
 use Rattle.jdwp_debuggee.specs.Steps.{occurs, occurs_by, may_step, happens, ends, thread_ended, with_happening, death_by, report_by}
 use Rattle.jdwp_debuggee.specs.Facts.{IsSound}
 use Rattle.jdwp_model.specs.Lasting.{asks_frames_of, writes_by, writes}
@@ -40,9 +44,13 @@ first-is : (items : List DatumMeaning) (t : ℕ) → begins_with items t ≡ tru
 first-is (One (Object n) ∷ items) t h = ap Some (eqb-true n t h)
 first-is items t h = absurd (cc)
 
-object-is : (x : Carried) (t : ℕ) → begins_with (content_of x) t ≡ true → object_in x ≡ Some t
-object-is (Content items) t h = first-is items t h
-object-is (Raw bytes) t h = absurd (cc)
+raw-begins : (b : Bool) (bytes : List ℕ) (t : ℕ) → begins_with (if b then meaning.Raw bytes ∷ [] else []) t ≡ true → ⊥
+raw-begins true bytes t h = absurd (cc)
+raw-begins false bytes t h = absurd (cc)
+
+object-is : (set number : ℕ) (x : Carried) (t : ℕ) → begins_with (content_of set number x) t ≡ true → object_in x ≡ Some t
+object-is set number (Content items) t h = first-is items t h
+object-is set number (Raw bytes) t h = absurd (raw-begins (is_invocation set number) bytes t h)
 
 which : (a f g h s : Bool) → ((a && (f || (g || h))) || (a && s)) ≡ true → (a ≡ true) × ((f || (g || (h || s))) ≡ true)
 which true true g h s e = (refl, refl)
@@ -63,8 +71,8 @@ asks-by c t false x e o f g = g refl
 
 pub frames_action : (c : Command) (t : ℕ) → asks_frames_of c t ≡ true → action_of c ≡ Actions.AskFrames t
 frames_action c t h =
-    let w = which (begins_with (content_of c.carried) t) (is_command FRAMES c.set c.number) (is_command FRAME_COUNT c.set c.number) (is_command THIS_OBJECT c.set c.number) (is_command GET_SLOTS c.set c.number) h in
-    let o : object_in c.carried ≡ Some t = object-is c.carried t w.0 in
+    let w = which (begins_with (content_of c.set c.number c.carried) t) (is_command FRAMES c.set c.number) (is_command FRAME_COUNT c.set c.number) (is_command THIS_OBJECT c.set c.number) (is_command GET_SLOTS c.set c.number) h in
+    let o : object_in c.carried ≡ Some t = object-is c.set c.number c.carried t w.0 in
     asks-by c t _ FRAMES refl o (λ y p. ap (λ v. action_by v (record { set = FRAMES.set; number = FRAMES.number; carried = y })) p) (λ n0.
     asks-by c t _ FRAME_COUNT refl o (λ y p. ap (λ v. action_by v (record { set = FRAME_COUNT.set; number = FRAME_COUNT.number; carried = y })) p) (λ n1.
     asks-by c t _ THIS_OBJECT refl o (λ y p. ap (λ v. action_by v (record { set = THIS_OBJECT.set; number = THIS_OBJECT.number; carried = y })) p) (λ n2.
@@ -126,6 +134,24 @@ written-frames m law settings now t u f values s w true = frames_refl m t now.ma
 written-frames m law settings now t u f values s w false =
     (law.sizes_written now.machine u f values s.state, λ q h. law.frames_written now.machine u f t values q s.state (other-thread u t w) h)
 
+-- a string that is made leaves frames
+asked-frames : {S : Type 0} (m : Meaning S) → IsLawful m → (settings : Settings) (now : Moment S) (c : Command) (t : ℕ) → IsSound m settings now → (b : Bool) → SameFrames m t now.machine (asks_by m settings now c b).after.machine
+asked-frames m law settings now c t s true =
+    (law.sizes_made now.machine (text_in (query_of c).content) s.state, λ q h. law.frames_made now.machine (text_in (query_of c).content) t q s.state h)
+asked-frames m law settings now c t s false = frames_refl m t now.machine now.machine refl
+
+-- a command that makes a string asks
+string-asks : (c : Command) → makes_string (query_of c) ≡ true → action_of c ≡ Actions.Ask
+string-asks c h =
+    rw (eqb-true c.set CREATE_STRING.set (and-left (c.set == CREATE_STRING.set) (c.number == CREATE_STRING.number) h), eqb-true c.number CREATE_STRING.number (and-right (c.set == CREATE_STRING.set) (c.number == CREATE_STRING.number) h)) refl
+
+kept-frames : {S : Type 0} (m : Meaning S) → Rests m → (settings : Settings) (now : Moment S) (c : Command) (t : ℕ) (a : Action) (made : Bool) → makes_string (query_of c) ≡ made → action_of c ≡ a → leaves_machine a ≡ true → (Actions.Ask ≡ a → ⊥)
+    → SameFrames m t now.machine (effect m settings now c).after.machine
+kept-frames m rests settings now c t a true on e leaves other = absurd (other (sym (string-asks c on) ∙ e))
+kept-frames m rests settings now c t a false off e leaves other =
+    let kept : keeps_machine c ≡ true = ap (λ (b : Bool). not b && leaves_machine (action_of c)) off ∙ subst (λ x. leaves_machine x ≡ true) (sym e) leaves in
+    frames_refl m t now.machine (effect m settings now c).after.machine (rests.machine settings now c kept)
+
 effect-by : {S : Type 0} (m : Meaning S) → Rests m → (settings : Settings) (now : Moment S) (c : Command) (t : ℕ) (a : Action) → IsSound m settings now → action_of c ≡ a → writes_by a t ≡ false → (effect m settings now c).after.state.alive ≡ true → SameFrames m t now.machine (effect m settings now c).after.machine
 effect-by m rests settings now c t (Actions.SetSlots u f values) s e w al =
     elim (is_answered settings.profile c) as (λ b. SameFrames m t now.machine (effect_by m settings now c b).after.machine) [
@@ -141,8 +167,12 @@ effect-by m rests settings now c t Actions.Exit s e w al =
       | true ↦ subst (λ x. (does m settings now c x).after.state.alive ≡ true → SameFrames m t now.machine (does m settings now c x).after.machine) (sym e) (λ x. absurd (cc))
       | false ↦ λ x. frames_refl m t now.machine now.machine refl
     ] al
-effect-by m rests settings now c t a s e w al =
-    frames_refl m t now.machine (effect m settings now c).after.machine (rests.machine settings now c (subst (λ x. keeps_machine x ≡ true) (sym e) refl))
+effect-by m rests settings now c t Actions.Ask s e w al =
+    elim (is_answered settings.profile c) as (λ b. SameFrames m t now.machine (effect_by m settings now c b).after.machine) [
+      | true ↦ subst (λ x. SameFrames m t now.machine (does m settings now c x).after.machine) (sym e) (asked-frames m rests.lawful settings now c t s (makes_string (query_of c)))
+      | false ↦ frames_refl m t now.machine now.machine refl
+    ]
+effect-by m rests settings now c t a s e w al = kept-frames m rests settings now c t a (makes_string (query_of c)) refl e refl (λ q. absurd (cc))
 
 pub effect_frames : {S : Type 0} (m : Meaning S) → Rests m → (settings : Settings) (now : Moment S) (c : Command) (t : ℕ) → IsSound m settings now → writes c t ≡ false → (effect m settings now c).after.state.alive ≡ true → SameFrames m t now.machine (effect m settings now c).after.machine
 effect_frames m rests settings now c t s w al = effect-by m rests settings now c t (action_of c) s refl w al

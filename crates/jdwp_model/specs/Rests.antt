@@ -22,8 +22,8 @@ pub record Rests {S : Type 0} (m : Meaning S) : Type 0 where
   pub lawful : IsLawful m
   -- moves_counts_and_requests
   pub facts : (settings : Settings) → Facts m settings
-  -- changes_machine_at_exit_and_slots
-  pub machine : (settings : Settings) (now : Moment S) (c : Command) → keeps_machine (action_of c) ≡ true → (effect m settings now c).after.machine ≡ now.machine
+  -- changes_machine_at_exit_slots_and_strings
+  pub machine : (settings : Settings) (now : Moment S) (c : Command) → keeps_machine c ≡ true → (effect m settings now c).after.machine ≡ now.machine
   -- answers_id_sizes
   pub sizes : (settings : Settings) (now : Moment S) (c : Command) → action_of c ≡ IdSizes → (effect m settings now c).answer ≡ sizes_answer (m.sizes now.machine)
   -- accepts_the_three_policies

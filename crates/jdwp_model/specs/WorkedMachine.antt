@@ -94,6 +94,8 @@ small = record {
   query = small_answer;
   write_answer = λ s t f values. Error INVALID_FRAMEID;
   written = λ s t f values. s;
+  made_answer = λ s text. Error NOT_IMPLEMENTED;
+  made = λ s text. s;
 }
 
 abbrev pub small_opening : Small

@@ -33,7 +33,7 @@ abbrev pub slot_part : Slot → SlotPart
 slot_part s = record { from = s.from; name = string_bytes s.name; signature = string_bytes s.signature; len = s.length; slot = s.slot }
 
 abbrev pub method_part : Method → MethodPart
-method_part m = record { id = m.id.0; name = string_bytes m.name; signature = string_bytes m.signature; modifiers = m.modifiers; args = m.args; last = m.last; lines = m.lines.items; slots = map slot_part m.slots.items }
+method_part m = record { id = m.id.0; name = string_bytes m.name; signature = string_bytes m.signature; modifiers = m.modifiers; args = m.args; last = m.last; lines = m.lines.items; slots = map slot_part m.slots.items; returns = m.returns }
 
 abbrev pub class_part : Class → ClassPart
 class_part c = record { id = c.id.0; tag = c.tag; signature = string_bytes c.signature; modifiers = c.modifiers; superclass = c.superclass.0; interfaces = map (λ (n : ReferenceTypeId). n.0) c.interfaces.items; source = option_map string_bytes c.source; fields = map field_part c.fields.items; methods = map method_part c.methods.items; «module» = c.module.0 }

@@ -32,6 +32,7 @@ pub record SlotPart : Type 0 where
   pub len : ℤ
   pub slot : ℤ
 
+-- a method, and what an invocation of it answers, if the script says so
 pub record MethodPart : Type 0 where
   pub id : ℕ
   pub name : List ℕ
@@ -41,6 +42,7 @@ pub record MethodPart : Type 0 where
   pub last : ℕ
   pub lines : List Line
   pub slots : List SlotPart
+  pub returns : Option Literal
 
 -- a class; its superclass is 0 where it has none, and so is its module
 pub record ClassPart : Type 0 where

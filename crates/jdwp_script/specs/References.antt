@@ -87,12 +87,12 @@ abbrev pub lines_lost : ℕ → Option ℕ → List Line → Bool
 lines_lost last before [] = false
 lines_lost last before (l ∷ ls) = nat_lt last l.index || (if_there (λ n. nat_le l.index n) before || lines_lost last (Some l.index) ls)
 
-abbrev pub method_lost : MethodPart → Bool
-method_lost m = (m.id == 0) || lines_lost m.last None m.lines
+abbrev pub method_lost : Known → MethodPart → Bool
+method_lost k m = (m.id == 0) || (lines_lost m.last None m.lines || if_there (literal_lost k) m.returns)
 
 -- a field or a method of a class, or its module
 abbrev pub class_lost : Known → ClassPart → Bool
-class_lost k c = list_any (field_lost k) c.fields || (list_any method_lost c.methods || is_lost k.module c.module)
+class_lost k c = list_any (field_lost k) c.fields || (list_any (method_lost k) c.methods || is_lost k.module c.module)
 
 -- ---- objects
 

@@ -13,7 +13,7 @@ use Rattle.jdwp_value.specs.Values.{is_void}
 use Rattle.jdwp_script.specs.declared.fault.ScriptFault.{ScriptFault}
 use Rattle.jdwp_script.specs.declared.fault.ScriptFault.TheVariants.{Missing}
 use Rattle.jdwp_script.specs.declared.member.Member.{Member}
-use Rattle.jdwp_script.specs.declared.member.Member.TheVariants.{Name, Sizes, Groups, Classes, Objects, Threads, Id, Parent, Tag as OfTag, Signature, Modifiers, Super, Interfaces, Source, Fields, Methods, Value, Args, Last, Lines, Slots, From, Length, Slot, Class, Text, Array, Group, Steps, Modules, Module}
+use Rattle.jdwp_script.specs.declared.member.Member.TheVariants.{Name, Sizes, Groups, Classes, Objects, Threads, Id, Parent, Tag as OfTag, Signature, Modifiers, Super, Interfaces, Source, Fields, Methods, Value, Args, Last, Lines, Slots, Returns, From, Length, Slot, Class, Text, Array, Group, Steps, Modules, Module}
 use Rattle.jdwp_script.specs.declared.script.Line.{Line}
 use Rattle.jdwp_script.specs.declared.script.FieldValue.{FieldValue}
 use Rattle.jdwp_script.specs.declared.step.Literal.{Literal}
@@ -88,7 +88,8 @@ method m d =
     member_of Last whole d >>= λ last.
     member_of Lines (list_of line) d >>= λ lines.
     member_of Slots (list_of slot) d >>= λ slots.
-    Ok (record { id = id; name = name; signature = signature; modifiers = modifiers; args = args; last = last; lines = lines; slots = slots })
+    member_or None Returns (or_null literal) d >>= λ returns.
+    Ok (record { id = id; name = name; signature = signature; modifiers = modifiers; args = args; last = last; lines = lines; slots = slots; returns = returns })
 
 abbrev pub class : Reader ClassPart
 class m d =

@@ -25,7 +25,7 @@ abbrev pub field_wide : Widths → FieldPart → Bool
 field_wide w f = is_wide w.field f.id || if_there (literal_wide w) f.value
 
 abbrev pub method_wide : Widths → MethodPart → Bool
-method_wide w m = is_wide w.method m.id
+method_wide w m = is_wide w.method m.id || if_there (literal_wide w) m.returns
 
 abbrev pub class_wide : Widths → ClassPart → Bool
 class_wide w c = is_wide w.reference c.id || (is_wide w.reference c.superclass || (list_any (is_wide w.reference) c.interfaces || (list_any (field_wide w) c.fields || (list_any (method_wide w) c.methods || is_wide w.object c.module))))

@@ -181,6 +181,7 @@ impl Part for Method {
             last: member(alloc, value, Member::Last)?,
             lines: member(alloc, value, Member::Lines)?,
             slots: member(alloc, value, Member::Slots)?,
+            returns: member_or(alloc, None, value, Member::Returns)?,
         })
     }
 }

@@ -7,7 +7,7 @@ use crate::judge::{Judge, first_bad};
 use crate::known::KnownIds;
 use crate::loops::{GoesBack, IsOnce, loop_lost};
 use crate::member::Member;
-use crate::references::{change_frames, field_twice, fits_tag, is_lost, step_lost};
+use crate::references::{change_frames, field_twice, fits_tag, is_lost, lines_lost, step_lost};
 use crate::script::{Class, Elements, Field, FieldValue, Group, Method, Object, Script, Thread};
 use crate::step::{Call, Literal, Place, SlotValue, Step, Throw};
 use jdwp_wire::NoMemory;
@@ -161,9 +161,11 @@ fn field_cause(field: &Field) -> Cause {
 /// What is bad of a method that is.
 fn method_cause(method: &Method) -> Cause {
     if method.id.0 == 0 {
-        Cause::Zero(IdKind::Method)
-    } else {
-        Cause::Lines
+        return Cause::Zero(IdKind::Method);
+    }
+    match &method.returns {
+        Some(value) if !lines_lost(method.last, &method.lines) => literal_cause(value),
+        _ => Cause::Lines,
     }
 }
 

@@ -124,7 +124,7 @@ impl Judge<Field> for KnownIds {
 }
 
 /// Whether an index of a line is past the last one, or not above the one before it.
-fn lines_lost(last: u64, lines: &[Line]) -> bool
+pub(crate) fn lines_lost(last: u64, lines: &[Line]) -> bool
     ensures { result ≡ lines_lost last None lines.now }
 {
     let mut before = None;
@@ -152,10 +152,16 @@ impl Judge<Method> for KnownIds {
 
     ghost meaning = { method_part };
 
-    ghost judges = { λ _. method_lost };
+    ghost judges = { λ k. method_lost (known_ids k) };
 
     fn is_bad(&self, method: &Method) -> bool {
-        method.id.0 == 0 || lines_lost(method.last, &method.lines)
+        if method.id.0 == 0 || lines_lost(method.last, &method.lines) {
+            return true;
+        }
+        match &method.returns {
+            Some(value) => self.is_bad(value),
+            None => false,
+        }
     }
 }
 

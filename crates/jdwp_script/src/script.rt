@@ -80,6 +80,8 @@ pub struct Method {
     /// By rising index.
     pub lines: Vec<Line>,
     pub slots: Vec<Slot>,
+    /// What an invocation of it answers; None where the text says nothing of it.
+    pub returns: Option<Literal>,
 }
 
 /// The code index at which a line begins.

@@ -86,7 +86,13 @@ impl Judge<Method> for TooWide {
     ghost judges = { λ wide. method_wide wide.sizes };
 
     fn is_bad(&self, method: &Method) -> bool {
-        is_wide(method.id.0, self.sizes.method())
+        if is_wide(method.id.0, self.sizes.method()) {
+            return true;
+        }
+        match &method.returns {
+            Some(value) => self.is_bad(value),
+            None => false,
+        }
     }
 }
 

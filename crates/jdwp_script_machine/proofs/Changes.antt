@@ -56,7 +56,7 @@ made_then_started place (Again k) t es distinct = first_is_all (λ (e : ThreadNo
 
 pub stepped_is : (s : State) (t place : ℕ) (e : ThreadNow) (step : StepPart) (threads : List ThreadNow) (classes : List ClassNow) → Some e ≡ thread_at s t → Some step ≡ next_step s.script e → place ≡ place_after s.script e
     → threads ≡ changed (λ (e : ThreadNow). e.id) t (after_step place step) (with_started step s.threads) → classes ≡ with_prepared step s.classes
-    → record { script = s.script; threads = threads; classes = classes; profile = s.profile } ≡ stepped s t
+    → record { script = s.script; threads = threads; classes = classes; made = s.made; profile = s.profile } ≡ stepped s t
 stepped_is s t place e step threads classes found next on p q = rw (← found, ← next, p, q, on) refl
 
 -- ---- what is written at a place

@@ -1,28 +1,28 @@
--- Proofs that threads stay so, that the steps which they have left can be made: at a step, at an end and at a write of slots.
-use Rattle.std.proofs.Common.{◌≡◌, ◌≢◌, ℕ, zero, suc, ℤ, ◌+◌, ◌-◌, ◌<◌, ◌≤◌, ◌==◌, ◌||◌, Bool, true, false, cond, if◌then◌else◌, List, [], ◌∷◌, map, drop, length, refl, sym, ◌∙◌, ap, ap₂, subst, arith, add-one, Option, Some, None, option_map, ◌⊎◌, inl, inr}
+-- Proofs that threads stay so, that the steps which they have left can be made: at a step, at an end, at a write of slots and where a string is made.
+use Rattle.std.proofs.Common.{◌≡◌, ◌≢◌, ℕ, zero, suc, ℤ, ◌+◌, ◌-◌, ◌≤◌, ◌==◌, ◌||◌, Bool, true, false, if◌then◌else◌, List, [], ◌∷◌, drop, length, refl, sym, ◌∙◌, ap, subst, arith, add-one, Option, Some, None, Result, Ok, Err, option_map, ◌⊎◌, inl, inr}
 use Rattle.std.proofs.lemmas.Bool.{eqb-true, eq-eqb, false≢true}
 use Rattle.std.proofs.lemmas.List.{length-map}
-use Rattle.std.specs.List.{list_any, AllByRecursion, IsDistinct}
+use Rattle.std.specs.List.{AllByRecursion, IsDistinct}
 use Rattle.jdwp_wire.specs.declared.error_code.ErrorCode.{ErrorCode}
 use Rattle.jdwp_value.specs.declared.value.Value.{Value}
-use Rattle.jdwp_event.specs.Occurrences.{runs_out}
 use Rattle.jdwp_machine.specs.Meanings.{has}
 use Rattle.jdwp_script.specs.Limits as limits
 use Rattle.jdwp_script.specs.References.{loop_lost}
-use Rattle.jdwp_script.specs.Parts.{StepPart, Call, Go, Return, Throwing, Prepare, Start, Again, ThreadPart, ScriptPart}
-use Rattle.jdwp_script_machine.specs.LookUps.{with_id, changed}
+use Rattle.jdwp_script.specs.Parts.{ObjectPart, StepPart, Call, Go, Return, Throwing, Prepare, Start, Again, ThreadPart, ScriptPart}
+use Rattle.jdwp_script_machine.specs.LookUps.{with_id}
 use Rattle.jdwp_script_machine.specs.States.{FrameNow, Life, Waits, Lives, HasEnded, ThreadNow, State, has_begun, living, begun, may_begin, thread_at, starts_thread}
 use Rattle.jdwp_script_machine.specs.Sites.{thread_in}
-use Rattle.jdwp_script_machine.specs.Steps.{next_step, place_after, moved, frames_after, happening_of, next, after_step, alive, with_started, stepped_by, stepped_of, stepped, gone, ended}
-use Rattle.jdwp_script_machine.specs.SlotWrites.{frame_written, thread_written, write_refusal, written_by, written}
+use Rattle.jdwp_script_machine.specs.Steps.{next_step, place_after, moved, frames_after, next, after_step, alive, with_started, stepped_by, stepped_of, gone}
+use Rattle.jdwp_script_machine.specs.SlotWrites.{frame_written, thread_written, write_refusal, written_by}
+use Rattle.jdwp_script_machine.specs.Made.{string_made, with_made}
 use Rattle.jdwp_script_machine.specs.Sound.{thread_ids}
 use Rattle.jdwp_script_machine.specs.StateLaws.{either, has_id, with_change, has_living, living_begun, change_into, change_within, ids_kept, found_other}
 use Rattle.jdwp_script_machine.specs.LiveLaws.{begun_ended}
 use Rattle.jdwp_script_machine.specs.SoundLaws.{unchanged, all_changed, all_changed_found, started_ids}
 use Rattle.jdwp_script_machine.specs.FrameLaws.{found_changed}
 use Rattle.jdwp_script_machine.specs.OpeningLaws.{neither}
-use Rattle.jdwp_script_machine.specs.Runs.{Deed, Steps, Ends, Writes, after, MayBe, after_all, MayAllBe}
-use Rattle.jdwp_script_machine.proofs.CanSteps.{CanMake, CanMakeAll}
+use Rattle.jdwp_script_machine.specs.Runs.{Deed, Steps, Ends, Writes, Makes, after, MayBe, after_all, MayAllBe}
+use Rattle.jdwp_script_machine.proofs.CanSteps.{CanMake}
 use Rattle.jdwp_script_machine.proofs.Going.{steps_left, left, starts_left, IsPlaced, StandsAt, Goes, IsMade, IsGoing, next_left, can_make_at, stands_after, starts_after, made_of, stands, begins_next}
 use Rattle.jdwp_script_machine.proofs.Loops.{starts}
 use Rattle.jdwp_script_machine.proofs.Openings.{total}
@@ -96,6 +96,10 @@ going_written script es going t f values =
 written_going : (s : State) → IsGoing s.script s.threads → (t f : ℕ) (values : List (ℤ × Value)) (r : Option ErrorCode) → IsGoing (written_by s t f values r).script (written_by s t f values r).threads
 written_going s going t f values None = going_written s.script s.threads going t f values
 written_going s going t f values (Some e) = going
+
+made_going : (s : State) → IsGoing s.script s.threads → (r : Result ObjectPart ErrorCode) → IsGoing (with_made s r).script (with_made s r).threads
+made_going s going (Ok o) = going
+made_going s going (Err e) = going
 
 -- ---- a thread that is started
 
@@ -319,6 +323,7 @@ going_after : (s : State) → IsGoing s.script s.threads → (d : Deed) → MayB
 going_after s going (Steps t) may = stepped_going s going t (thread_at s t) refl may.0
 going_after s going (Ends t) may = going_ended s.script s.threads going t (living_begun s.threads t (sym (has_living s.threads t) ∙ may))
 going_after s going (Writes t f values) may = written_going s going t f values (write_refusal s t f values)
+going_after s going (Makes text) may = made_going s going (string_made s text)
 
 -- what is done to a machine leaves each thread so, that it can make the steps that it has left
 pub going_after_all : (s : State) → IsGoing s.script s.threads → (ds : List Deed) → MayAllBe s ds → IsGoing (after_all s ds).script (after_all s ds).threads

@@ -11,4 +11,6 @@ pub mod Reaches
 pub mod Rising
 pub mod Sets
 pub mod Standing
+pub mod Strings
 pub mod FieldValues
+pub mod InvocationsRefused

@@ -1,5 +1,5 @@
 -- Proofs about the machine that a text is read as.
-use Rattle.std.proofs.Common.{◌≡◌, ℕ, ℤ, ◌≤◌, ◌==◌, Bool, true, false, nat_lt, List, [], ◌∷◌, length, take, refl, sym, ap, ◌∙◌, inl, inr, if◌then◌else◌, Option, Some, None, Result}
+use Rattle.std.proofs.Common.{◌≡◌, ℕ, ℤ, ◌≤◌, ◌==◌, false, nat_lt, List, [], ◌∷◌, length, take, refl, sym, ap, ◌∙◌, inl, inr, Option, Some, None, Result, Ok, Err, IfOk, OnErr}
 use Rattle.std.proofs.lemmas.Bool.{ltb-false}
 use Rattle.std.proofs.lemmas.List.{length-map}
 use Rattle.jdwp_wire.specs.Widths.{Widths, IsWidth, AreWidths}
@@ -9,7 +9,10 @@ use Rattle.jdwp_value.specs.declared.value.Value.{Value}
 use Rattle.jdwp_machine.specs.Meanings.{numbers}
 use Rattle.jdwp_machine.specs.declared.profile.Profile.{Profile}
 use Rattle.jdwp_script.specs.declared.fault.ScriptFault.{ScriptFault}
-use Rattle.jdwp_script.specs.declared.fault.ScriptFault.TheVariants.{NotJson, Missing, IdTwice, IdTooWide, BadReference, OverLimit, NoMemory}
+use Rattle.jdwp_script.specs.declared.fault.ScriptFault.TheVariants.{NotJson, Missing, IdTwice, IdTooWide, BadReference, OverLimit}
+use Rattle.jdwp_script.specs.declared.fault.ScriptFault.TheVariants as fault
+use Rattle.jdwp_wire.specs.declared.no_memory.NoMemory.{NoMemory}
+use Rattle.jdwp_layout.specs.declared.answer.Answer.{Answer}
 use Rattle.jdwp_script.specs.Parts.{StepPart, ScriptPart}
 use Rattle.jdwp_script.specs.Reading.{◌>>=◌, Fails}
 use Rattle.jdwp_script.specs.TooWide.{is_no_width}
@@ -20,6 +23,8 @@ use Rattle.jdwp_script_machine.specs.Sound.{IsSound}
 use Rattle.jdwp_script_machine.specs.Machines.{IsMachine}
 use Rattle.jdwp_script_machine.specs.SoundLaws.{started_length, written_sound}
 use Rattle.jdwp_script_machine.specs.FrameLaws.{written_script}
+use Rattle.jdwp_script_machine.specs.Made.{made_answer, made}
+use Rattle.jdwp_script_machine.specs.MadeLaws.{made_sound, made_script, made_threads}
 use Rattle.jdwp_script_machine.specs.StateLaws.{either, with_change}
 use Rattle.jdwp_script_machine.specs.SlotWrites.{write_refusal, thread_written, written_by, written}
 use Rattle.jdwp_script_machine.specs.OpeningLaws.{neither, opening_sound}
@@ -31,7 +36,16 @@ pub faultless_sound : (profile : Profile) (live : ℕ) (s : ScriptPart) → firs
 faultless_sound profile live s h =
     let none = faultless live s h in
     let sound = opening_sound live s none.0 none.1 none.2 in
-    record { script = sound.script; threads = sound.threads; each_thread = sound.each_thread; distinct = sound.distinct }
+    record {
+      script = sound.script;
+      threads = sound.threads;
+      each_thread = sound.each_thread;
+      distinct = sound.distinct;
+      within = sound.within;
+      few_made = sound.few_made;
+      each_made = sound.each_made;
+      counted = sound.counted;
+    }
 
 is_width : (n : ℕ) → is_no_width n ≡ false → IsWidth n
 is_width n h =
@@ -56,7 +70,7 @@ faultless_widths live s h =
 -- ---- a fault that is passed on
 
 pub fails_on : {X Y : Type 0} (e : ScriptFault) (r : Result X ScriptFault) (f : X → Result Y ScriptFault) → Fails e r → Fails e (r >>= f)
-fails_on NoMemory r f h = tt
+fails_on fault.NoMemory r f h = tt
 fails_on NotJson r f h = rw h refl
 fails_on (Missing m) r f h = rw h refl
 fails_on IdTwice r f h = rw h refl
@@ -107,3 +121,19 @@ written_is s r t f values places count widths same m =
       room = m.room ∙ sym (written_length s t f values (write_refusal s t f values));
       sizes = m.sizes ∙ sym (ap (λ (script : ScriptPart). script.sizes) (written_script s t f values));
     })
+
+made_is : (s r : State) (text : List ℕ) (places : List ObjectId) (count : ℕ) (widths : Widths) → r ≡ made s text → IsMachine s places count widths → IsMachine r places count widths
+made_is s r text places count widths same m =
+    rw same (record {
+      sound = made_sound s text m.sound;
+      live = m.live ∙ sym (ap living (made_threads s text));
+      within = m.within;
+      room = m.room ∙ sym (ap (λ (es : List ThreadNow). length es) (made_threads s text));
+      sizes = m.sizes ∙ sym (ap (λ (script : ScriptPart). script.sizes) (made_script s text));
+    })
+
+-- where a string was made, or nothing has changed
+pub made_or_same : (s r : State) (text : List ℕ) (places : List ObjectId) (count : ℕ) (widths : Widths) (result : Result Answer NoMemory) → IfOk result (λ a. (a ≡ made_answer s text) × (r ≡ made s text)) → OnErr result (r ≡ s)
+    → IsMachine s places count widths → IsMachine r places count widths
+made_or_same s r text places count widths (Ok a) ok err m = made_is s r text places count widths ok.1 m
+made_or_same s r text places count widths (Err e) ok err m = rw err m

@@ -18,7 +18,7 @@ use Rattle.jdwp_script_machine.specs.ThreadAnswers.{frames_at, frame_entry, fram
 use Rattle.jdwp_machine.specs.declared.profile.Profile.{Profile}
 use Rattle.jdwp_machine.specs.declared.profile.Profile.TheVariants.{Standard, Jdi}
 use Rattle.jdwp_script_machine.specs.Answers.{answer_at}
-use Rattle.jdwp_script_machine.specs.JdiAnswers.{jdi_answer_at}
+use Rattle.jdwp_script_machine.specs.InvocationAnswers.{invoking_answer_at}
 use Rattle.jdwp_script_machine.specs.ProfileAnswers.{answer_in, answer}
 use Rattle.jdwp_script_machine.specs.StateLaws.{either, with_change, found_other, found_same}
 
@@ -87,7 +87,7 @@ or_either false b h = inr h
 -- ---- questions about frames are answered alike in each profile
 
 places_in_jdi : (s : State) (u set number : ℕ) (content : List DatumMeaning)
-    → (begins_with content u && (is_command FRAMES set number || (is_command FRAME_COUNT set number || is_command THIS_OBJECT set number))) ≡ true → jdi_answer_at s set number content ≡ answer_at s set number content
+    → (begins_with content u && (is_command FRAMES set number || (is_command FRAME_COUNT set number || is_command THIS_OBJECT set number))) ≡ true → invoking_answer_at s set number content ≡ answer_at s set number content
 places_in_jdi s u set number content h =
     let asked = which_place (begins_with content u) (is_command FRAMES set number) (is_command FRAME_COUNT set number) (is_command THIS_OBJECT set number) h in
     elim asked.1 [
@@ -101,7 +101,7 @@ places_in : (p : Profile) (s : State) (u set number : ℕ) (content : List Datum
 places_in Standard s u set number content h = refl
 places_in Jdi s u set number content h = places_in_jdi s u set number content h
 
-slots_in_jdi : (s : State) (u set number : ℕ) (content : List DatumMeaning) → (begins_with content u && is_command GET_SLOTS set number) ≡ true → jdi_answer_at s set number content ≡ answer_at s set number content
+slots_in_jdi : (s : State) (u set number : ℕ) (content : List DatumMeaning) → (begins_with content u && is_command GET_SLOTS set number) ≡ true → invoking_answer_at s set number content ≡ answer_at s set number content
 slots_in_jdi s u set number content h =
     let asked = and_both (begins_with content u) (is_command GET_SLOTS set number) h in
     let is = command_is set number GET_SLOTS asked.1 in

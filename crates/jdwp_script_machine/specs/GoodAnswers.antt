@@ -11,14 +11,14 @@ use Rattle.jdwp_layout.specs.Meanings.{ScalarMeaning, Int, Object, ReferenceType
 use Rattle.jdwp_machine.specs.Laws.{IsMachineError, MayAnswer}
 use Rattle.jdwp_script.specs.Parts.{GroupPart, MethodPart, ClassPart, ObjectPart, ThreadPart, ModulePart}
 use Rattle.jdwp_script_machine.specs.States.{FrameNow, ThreadNow, State, thread_at, is_prepared}
-use Rattle.jdwp_script_machine.specs.Sites.{class_in, method_in, object_in, group_in, thread_in, module_in}
+use Rattle.jdwp_script_machine.specs.Sites.{class_in, method_in, object_at, group_in, thread_in, module_in}
 use Rattle.jdwp_script_machine.specs.SlotWrites.{frame_in}
 use Rattle.jdwp_script_machine.specs.Steps.{FRAME_LIMIT}
 use Rattle.jdwp_script_machine.specs.Requests.{Asks, alone, found_or, of_class, of_prepared_class, of_method_in, of_method, of_object, of_group, of_module, of_thread, of_frames, of_frame_in, of_frame, of_entries, part_from, part_of, of_part}
 use Rattle.jdwp_script_machine.specs.ThreadAnswers.{frames_at}
-use Rattle.jdwp_script_machine.specs.Sound.{MethodIsSound, ClassIsSound, ObjectIsSound, GroupIsSound, ThreadIsSound, ModuleIsSound, FrameIsSound, ThreadNowIsSound, IsSound}
+use Rattle.jdwp_script_machine.specs.Sound.{MethodIsSound, ClassIsSound, GroupIsSound, ThreadIsSound, ModuleIsSound, FrameIsSound, ThreadNowIsSound, ObjectFits, IsSound}
 use Rattle.jdwp_script_machine.specs.StateLaws.{either}
-use Rattle.jdwp_script_machine.specs.SoundLaws.{all_found}
+use Rattle.jdwp_script_machine.specs.SoundLaws.{all_found, found_fits}
 use Rattle.jdwp_script_machine.specs.FitLaws.{all_take, all_drop, length_take, length_drop}
 use Rattle.jdwp_script_machine.specs.ScriptMeaning.{script_meaning}
 
@@ -89,7 +89,7 @@ pub prepared_good : (s : State) (command : CommandNumber) → IsSound s → (ans
 prepared_good s command sound answer good content =
     class_good s command sound (λ c rest. if is_prepared s c.id then answer c rest else Error CLASS_NOT_PREPARED) (λ c h rest. prepared_when s command (is_prepared s c.id) (answer c rest) (good c h rest)) content
 
-method_in_good : (s : State) (command : CommandNumber) (answer : ClassPart → MethodPart → Asks) → ((c : ClassPart) (m : MethodPart) → MethodIsSound s.script.sizes m → (rest : List DatumMeaning) → Good s command (answer c m rest))
+pub method_in_good : (s : State) (command : CommandNumber) (answer : ClassPart → MethodPart → Asks) → ((c : ClassPart) (m : MethodPart) → MethodIsSound s.script.sizes m → (rest : List DatumMeaning) → Good s command (answer c m rest))
     → (c : ClassPart) → ClassIsSound s.script.sizes c → (content : List DatumMeaning) → Good s command (of_method_in answer c content)
 method_in_good s command answer good c sound (One (Method id) ∷ rest) =
     found_good s command INVALID_METHODID (λ (m : MethodPart). answer c m rest) (method_in c id) (above INVALID_METHODID (omega arith) (omega arith))
@@ -100,11 +100,11 @@ pub method_good : (s : State) (command : CommandNumber) → IsSound s → (answe
     → (content : List DatumMeaning) → Good s command (of_method s.script answer content)
 method_good s command sound answer good content = class_good s command sound (of_method_in answer) (method_in_good s command answer good) content
 
-pub object_good : (s : State) (command : CommandNumber) → IsSound s → (answer : ObjectPart → Asks) → ((o : ObjectPart) → ObjectIsSound s.script.sizes o → (rest : List DatumMeaning) → Good s command (answer o rest))
-    → (content : List DatumMeaning) → Good s command (of_object s.script answer content)
+pub object_good : (s : State) (command : CommandNumber) → IsSound s → (answer : ObjectPart → Asks) → ((o : ObjectPart) → ObjectFits s.script.sizes o → (rest : List DatumMeaning) → Good s command (answer o rest))
+    → (content : List DatumMeaning) → Good s command (of_object s answer content)
 object_good s command sound answer good (One (Object id) ∷ rest) =
-    found_good s command INVALID_OBJECT (λ (o : ObjectPart). answer o rest) (object_in s.script id) (above INVALID_OBJECT (omega arith) (omega arith))
-    (λ o h. good o (all_found (λ (o : ObjectPart). o.id) (ObjectIsSound s.script.sizes) s.script.objects id o sound.script.each_object h) rest)
+    found_good s command INVALID_OBJECT (λ (o : ObjectPart). answer o rest) (object_at s id) (above INVALID_OBJECT (omega arith) (omega arith))
+    (λ o h. good o (found_fits s sound id o h) rest)
 object_good s command sound answer good content = illegal s command
 
 pub group_good : (s : State) (command : CommandNumber) → IsSound s → (answer : GroupPart → Asks) → ((g : GroupPart) → GroupIsSound s.script.sizes g → (rest : List DatumMeaning) → Good s command (answer g rest))

@@ -24,7 +24,7 @@ use Rattle.jdwp_script_machine.specs.ClassAnswers.{module_entry}
 use Rattle.jdwp_script_machine.specs.ObjectAnswers.{type_answer, object_type_answer}
 use Rattle.jdwp_script_machine.specs.ModuleAnswers.{module_name_answer, module_loader_answer}
 use Rattle.jdwp_script_machine.specs.Answers.{answer_at}
-use Rattle.jdwp_script_machine.specs.JdiAnswers.{class_paths_bytes, class_signed, class_named, class_by, class_of_id, TypeAsked, asked_of, type_asked, type_told, any_type_answer, greatest_id, fitting, unnamed_module, unnamed_entries, every_module, module_or_unnamed, any_module_answer, unnamed_asked, unnamed_told, any_name_answer, any_loader_answer, extension_answer, owned_answer, contended_answer, jdi_answer_at}
+use Rattle.jdwp_script_machine.specs.JdiAnswers.{class_paths_bytes, class_signed, class_by, class_of_id, TypeAsked, asked_of, type_asked, type_told, any_type_answer, greatest_id, fitting, unnamed_module, unnamed_entries, every_module, module_or_unnamed, any_module_answer, unnamed_asked, unnamed_told, any_name_answer, any_loader_answer, extension_answer, owned_answer, contended_answer, jdi_answer_at}
 use Rattle.jdwp_script_machine.specs.Sound.{Fits, ClassIsSound, ModuleIsSound, IsSound}
 use Rattle.jdwp_script_machine.specs.StateLaws.{either}
 use Rattle.jdwp_script_machine.specs.SoundLaws.{all_found, zero_fits}
@@ -64,9 +64,9 @@ told_good : (s : State) (otherwise : Answer) → Good s OBJECT_TYPE otherwise �
 told_good s otherwise h None sound = h
 told_good s otherwise h (Some x) sound = alone_good s OBJECT_TYPE (type_answer x.class) (type_good s x.class (sound x refl)) x.rest
 
-any_type_good : (s : State) → IsSound s → (content : List DatumMeaning) → Good s OBJECT_TYPE (any_type_answer s.script content)
+any_type_good : (s : State) → IsSound s → (content : List DatumMeaning) → Good s OBJECT_TYPE (any_type_answer s content)
 any_type_good s sound content =
-    told_good s (of_object s.script (object_type_answer s.script) content) (objects_answered s sound OBJECT_TYPE.number content) (type_asked s.script content) (asked_sound s sound content)
+    told_good s (of_object s (object_type_answer s.script) content) (objects_answered s sound OBJECT_TYPE.number content) (type_asked s.script content) (asked_sound s sound content)
 
 -- ---- the unnamed module
 

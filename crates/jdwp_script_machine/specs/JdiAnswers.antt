@@ -1,6 +1,6 @@
 -- What a machine answers beside the standard profile, for debuggers over the Java Debug Interface (JDWP specification, "VirtualMachine",
 -- "ReferenceType", "ObjectReference", "ThreadReference" and "ModuleReference").
-use Rattle.std.specs.Prelude.{ℕ, ◌+◌, ◌-◌, ◌^◌, ◌==◌, ◌&&◌, not, max, Bool, true, false, List, [], ◌∷◌, ◌++◌, map, length, slice_get, codes, bytes_eq, nat_lt, if◌then◌else◌, Option, Some, None, option_map}
+use Rattle.std.specs.Prelude.{ℕ, ◌+◌, ◌-◌, ◌^◌, ◌==◌, ◌&&◌, not, max, Bool, List, [], ◌∷◌, ◌++◌, map, length, slice_get, codes, bytes_eq, nat_lt, if◌then◌else◌, Option, Some, None, option_map}
 use Rattle.jdwp_wire.specs.ErrorCodes.{ABSENT_INFORMATION}
 use Rattle.jdwp_value.specs.declared.tag.ObjectTag.TheVariants as kind
 use Rattle.jdwp_value.specs.Values.{object_id}
@@ -56,8 +56,8 @@ type_told otherwise None = otherwise
 type_told otherwise (Some asked) = alone (type_answer asked.class) asked.rest
 
 -- ObjectReference.ReferenceType: of a thread or a group its class, of the others as ever
-abbrev pub any_type_answer : ScriptPart → Asks
-any_type_answer script content = type_told (of_object script (object_type_answer script) content) (type_asked script content)
+abbrev pub any_type_answer : State → Asks
+any_type_answer s content = type_told (of_object s (object_type_answer s.script) content) (type_asked s.script content)
 
 -- ---- the unnamed module
 
@@ -75,9 +75,13 @@ greatest_id script =
     max (max (last_id (λ (g : GroupPart). g.id) script.groups) (last_id (λ (t : ThreadPart). t.id) script.threads))
     (max (last_id (λ (o : ObjectPart). o.id) script.objects) (last_id (λ (m : ModulePart). m.id) script.modules))
 
--- a number that is an id of this width, which has 8 bytes at most, or 0
+-- whether a number is an id of this width, which has 8 bytes at most
+abbrev pub is_id : ℕ → ℕ → Bool
+is_id width n = nat_lt n (2 ^ 64) && nat_lt n (256 ^ width)
+
+-- the number, or 0 where it is none
 abbrev pub fitting : ℕ → ℕ → ℕ
-fitting width n = if nat_lt n (2 ^ 64) && nat_lt n (256 ^ width) then n else 0
+fitting width n = if is_id width n then n else 0
 
 -- The id of the module of all classes that the script puts in none: one more than the greatest id of a group, a thread, an object or a
 -- module. There is no such module, and this is 0, where that doesn't fit the width of objects' ids.
@@ -142,7 +146,7 @@ contended_answer t = alone (Data (One (Tagged (object_id kind.Object 0)) ∷ [])
 
 abbrev pub jdi_answer_at : State → ℕ → ℕ → Asks
 jdi_answer_at s set number content =
-    if is_command OBJECT_TYPE set number then any_type_answer s.script content else (
+    if is_command OBJECT_TYPE set number then any_type_answer s content else (
     if is_command CLASS_PATHS set number then class_paths_answer content else (
     if is_command ALL_MODULES set number then alone (every_module s.script) content else (
     if is_command CLASS_MODULE set number then of_class s.script (any_module_answer s.script) content else (

@@ -23,11 +23,16 @@ pub mod SlotQuestions
 pub mod Answers
 pub mod JdiAnswers
 pub mod JdiQuestions
+pub mod InvocationAnswers
+pub mod InvocationRefusals
+pub mod Made
+pub mod Told
 pub mod ProfileAnswers
 pub mod Sound
 pub mod StateLaws
 pub mod LiveLaws
 pub mod SoundLaws
+pub mod MadeLaws
 pub mod FitLaws
 pub mod ScriptMeaning
 pub mod GoodAnswers
@@ -37,6 +42,7 @@ pub mod ModuleAnswerLaws
 pub mod ThreadAnswerLaws
 pub mod JdiAnswerLaws
 pub mod FrameLaws
+pub mod InvocationAnswerLaws
 pub mod SlotLaws
 pub mod HappeningLaws
 pub mod ScriptLaws

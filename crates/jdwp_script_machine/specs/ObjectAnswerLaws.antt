@@ -2,6 +2,7 @@
 use Rattle.std.proofs.Common.{◌≡◌, ℕ, ◌^◌, Bool, true, false, nat_lt, if◌then◌else◌, List, [], ◌∷◌, map, filter, length, refl, arith, Option, Some, None}
 use Rattle.std.specs.List.{AllByRecursion}
 use Rattle.jdwp_wire.specs.Widths.{Widths}
+use Rattle.jdwp_wire.specs.Text.{text_refusal}
 use Rattle.jdwp_wire.specs.ErrorCodes.{INVALID_CLASS, INVALID_STRING, INVALID_ARRAY}
 use Rattle.jdwp_wire.specs.Listed.{list_refusal}
 use Rattle.jdwp_value.specs.declared.tag.Tag.{Tag}
@@ -23,7 +24,7 @@ use Rattle.jdwp_script_machine.specs.Sites.{class_in}
 use Rattle.jdwp_script_machine.specs.Requests.{found_or}
 use Rattle.jdwp_script_machine.specs.ClassAnswers.{group_entry, groups_below, answer_entries, field_values}
 use Rattle.jdwp_script_machine.specs.ObjectAnswers.{held_by, held_value, type_answer, object_type_answer, held_answer, collection_answer, collected_answer, object_answer, text_answer, string_value_answer, string_answer, element, length_answer, array_length_answer, region_answer, elements_asked, elements_answer, array_answer, group_name_answer, parent_answer, is_in_group, thread_entry, threads_below, children_answer, group_answer}
-use Rattle.jdwp_script_machine.specs.Sound.{IsShort, ValueFits, ClassIsSound, ElementsAreSound, ObjectIsSound, GroupIsSound, ThreadNowIsSound, IsSound}
+use Rattle.jdwp_script_machine.specs.Sound.{IsShort, ValueFits, ClassIsSound, ElementsAreSound, GroupIsSound, ThreadNowIsSound, ObjectFits, IsSound}
 use Rattle.jdwp_script_machine.specs.SoundLaws.{all_found}
 use Rattle.jdwp_script_machine.specs.FitLaws.{short_text, entries_fit, all_filter, short_filter}
 use Rattle.jdwp_script_machine.specs.GoodAnswers.{Good, command_at, above, at_number, alone_good, found_good, object_good, group_good, entries_good, of_part_good}
@@ -44,7 +45,7 @@ held_found : (w : Widths) (o : Option FieldValue) (v : Literal) → ((x : FieldV
 held_found w None v fits h = absurd cc
 held_found w (Some x) v fits h = let same : x.value ≡ v = cc in rw (← same) (fits x refl)
 
-held_fits : (w : Widths) (o : ObjectPart) → ObjectIsSound w o → (n : ℕ) (v : Literal) → held_value o n ≡ Some v → ValueFits w v
+held_fits : (w : Widths) (o : ObjectPart) → ObjectFits w o → (n : ℕ) (v : Literal) → held_value o n ≡ Some v → ValueFits w v
 held_fits w o sound n v h =
     held_found w (with_id (λ (x : FieldValue). x.field.0) n o.fields) v
     (λ x e. all_found (λ (x : FieldValue). x.field.0) (λ (x : FieldValue). ValueFits w x.value) o.fields n x sound.fields e) h
@@ -59,7 +60,7 @@ values_found : (s : State) (value_of : ℕ → Option Literal) → ((n : ℕ) (v
 values_found s value_of fits entries few None h = field_error s GET_FIELDS
 values_found s value_of fits entries few (Some ys) h = values_data s value_of fits entries ys few h
 
-held_good : (s : State) (o : ObjectPart) → ObjectIsSound s.script.sizes o → (content : List DatumMeaning) → Good s GET_FIELDS (held_answer o content)
+held_good : (s : State) (o : ObjectPart) → ObjectFits s.script.sizes o → (content : List DatumMeaning) → Good s GET_FIELDS (held_answer o content)
 held_good s o h content =
     entries_good s GET_FIELDS (λ entries. answer_entries (field_values (held_value o) entries))
     (λ entries few. values_found s (held_value o) (held_fits s.script.sizes o h) entries few (field_values (held_value o) entries) refl) content
@@ -87,12 +88,12 @@ objects_answered s sound n content =
 
 -- ---- StringReference
 
-text_good : (s : State) (t : List ℕ) → IsShort t → Good s STRING_VALUE (text_answer t)
+text_good : (s : State) (t : List ℕ) → text_refusal t ≡ None → Good s STRING_VALUE (text_answer t)
 unfolding Good
-text_good s t h = rw (short_text t h) refl
+text_good s t h = rw h refl
 
-string_value_good : (s : State) (o : ObjectPart) → ObjectIsSound s.script.sizes o → Good s STRING_VALUE (found_or INVALID_STRING text_answer o.text)
-string_value_good s o h = found_good s STRING_VALUE INVALID_STRING text_answer o.text (above INVALID_STRING (omega arith) (omega arith)) (λ t e. text_good s t (there IsShort o.text t h.text e))
+string_value_good : (s : State) (o : ObjectPart) → ObjectFits s.script.sizes o → Good s STRING_VALUE (found_or INVALID_STRING text_answer o.text)
+string_value_good s o h = found_good s STRING_VALUE INVALID_STRING text_answer o.text (above INVALID_STRING (omega arith) (omega arith)) (λ t e. text_good s t (there (λ t. text_refusal t ≡ None) o.text t h.text e))
 
 pub strings_answered : (s : State) → IsSound s → (n : ℕ) (content : List DatumMeaning) → Good s (command_at STRING_REFERENCE n) (string_answer s n content)
 strings_answered s sound n content =
@@ -132,7 +133,7 @@ elements_asked_good s content e h =
     of_part_good (λ (n : ℕ). value_refusal s.script.sizes (value_of_bits e.tag n) ≡ None) s GET_ELEMENTS (region_answer s.script e.tag) false e.bits h.each
     (λ ys few all. region_good s e.tag ys (omega arith) all) content
 
-elements_good : (s : State) (o : ObjectPart) → ObjectIsSound s.script.sizes o → (content : List DatumMeaning) → Good s GET_ELEMENTS (elements_answer s.script o content)
+elements_good : (s : State) (o : ObjectPart) → ObjectFits s.script.sizes o → (content : List DatumMeaning) → Good s GET_ELEMENTS (elements_answer s.script o content)
 elements_good s o h content =
     found_good s GET_ELEMENTS INVALID_ARRAY (elements_asked s.script content) o.array (above INVALID_ARRAY (omega arith) (omega arith))
     (λ e k. elements_asked_good s content e (there (ElementsAreSound s.script.sizes) o.array e h.array k))

@@ -50,11 +50,11 @@ collected_answer o = alone (Data (One (Boolean false) ∷ []))
 
 abbrev pub object_answer : State → ℕ → Asks
 object_answer s number content =
-    if number == OBJECT_TYPE.number then of_object s.script (object_type_answer s.script) content else (
-    if number == GET_FIELDS.number then of_object s.script held_answer content else (
-    if number == DISABLE_COLLECTION.number then of_object s.script collection_answer content else (
-    if number == ENABLE_COLLECTION.number then of_object s.script collection_answer content else (
-    if number == IS_COLLECTED.number then of_object s.script collected_answer content else
+    if number == OBJECT_TYPE.number then of_object s (object_type_answer s.script) content else (
+    if number == GET_FIELDS.number then of_object s held_answer content else (
+    if number == DISABLE_COLLECTION.number then of_object s collection_answer content else (
+    if number == ENABLE_COLLECTION.number then of_object s collection_answer content else (
+    if number == IS_COLLECTED.number then of_object s collected_answer content else
     Error NOT_IMPLEMENTED))))
 
 -- ---- StringReference
@@ -67,7 +67,7 @@ string_value_answer o = alone (found_or INVALID_STRING text_answer o.text)
 
 abbrev pub string_answer : State → ℕ → Asks
 string_answer s number content =
-    if number == STRING_VALUE.number then of_object s.script string_value_answer content else
+    if number == STRING_VALUE.number then of_object s string_value_answer content else
     Error NOT_IMPLEMENTED
 
 -- ---- ArrayReference
@@ -98,8 +98,8 @@ elements_answer script o content = found_or INVALID_ARRAY (elements_asked script
 
 abbrev pub array_answer : State → ℕ → Asks
 array_answer s number content =
-    if number == ARRAY_LENGTH.number then of_object s.script array_length_answer content else (
-    if number == GET_ELEMENTS.number then of_object s.script (elements_answer s.script) content else
+    if number == ARRAY_LENGTH.number then of_object s array_length_answer content else (
+    if number == GET_ELEMENTS.number then of_object s (elements_answer s.script) content else
     Error NOT_IMPLEMENTED)
 
 -- ---- ThreadGroupReference

@@ -1,7 +1,8 @@
 -- Proofs that the machine of a script that passes no limit, has no id twice and none that is too wide begins in a sound
 -- state.
-use Rattle.std.proofs.Common.{◌≡◌, ℕ, suc, ◌^◌, ◌≤◌, ◌==◌, ◌||◌, ◌&&◌, Bool, true, false, not, nat_lt, nat_le, if◌then◌else◌, List, [], ◌∷◌, ◌++◌, map, length, refl, sym, ◌∙◌, ap, arith, Option, Some, None}
-use Rattle.std.proofs.lemmas.Bool.{ltb-false, false≢true}
+use Rattle.std.proofs.Common.{◌≡◌, ℕ, suc, ◌-◌, ◌^◌, max, ◌≤◌, ◌==◌, ◌||◌, ◌&&◌, Bool, true, false, not, nat_lt, nat_le, if◌then◌else◌, List, [], ◌∷◌, ◌++◌, map, length, refl, sym, ◌∙◌, ap, subst, arith, Option, Some, None, inl, inr}
+use Rattle.std.proofs.lemmas.Bool.{ltb-false, leb-true, leb-false, false≢true}
+use Rattle.std.proofs.Math.Nat.{le-max_left, le-max_right}
 use Rattle.std.proofs.lemmas.List.{length-map}
 use Rattle.std.specs.List.{list_any, AllByRecursion, IsDistinct}
 use Rattle.jdwp_wire.specs.Widths.{Widths, IsWidth}
@@ -19,8 +20,9 @@ use Rattle.jdwp_script.specs.Twice as twice
 use Rattle.jdwp_script.specs.TooWide.{is_wide, literal_wide, group_wide, field_wide, method_wide, class_wide, field_value_wide, elements_wide, object_wide, slot_value_wide, step_wide, thread_wide, module_wide, is_no_width, has_wide_id}
 use Rattle.jdwp_value.specs.Rising.{put_in, rising}
 use Rattle.jdwp_script_machine.specs.States.{class_arranged, arranged, opening_thread, opening_of, opening}
-use Rattle.jdwp_script_machine.specs.Sound.{IsShort, Fits, ValueFits, IfThere, FieldIsSound, SlotIsSound, MethodIsSound, ClassIsSound, ElementsAreSound, ObjectIsSound, GroupIsSound, StepIsSound, ThreadIsSound, ModuleIsSound, ScriptIsSound, ThreadNowIsSound, thread_ids, IsSound}
-use Rattle.jdwp_script_machine.specs.StateLaws.{eqb_swap}
+use Rattle.jdwp_script_machine.specs.JdiAnswers.{last_id, greatest_id}
+use Rattle.jdwp_script_machine.specs.Sound.{IsShort, Fits, ValueFits, IfThere, FieldIsSound, SlotIsSound, MethodIsSound, ClassIsSound, ElementsAreSound, ObjectIsSound, GroupIsSound, StepIsSound, ThreadIsSound, ModuleIsSound, ScriptIsSound, ThreadNowIsSound, thread_ids, AreWithin, IsSound}
+use Rattle.jdwp_script_machine.specs.StateLaws.{either, eqb_swap}
 
 -- ---- words
 
@@ -109,13 +111,15 @@ slot_sound x limits =
 method_sound : (w : Widths) (m : MethodPart) → method_passes m ≡ false → method_wide w m ≡ false → MethodIsSound w m
 method_sound w m limits wide =
     let l = each_false (is_long m.name) (is_long m.signature ∷ over LIST_LIMIT m.lines ∷ over LIST_LIMIT m.slots ∷ list_any slot_passes m.slots ∷ []) limits in
+    let i = neither (is_wide w.method m.id) (if_there (literal_wide w) m.returns) wide in
     record {
-      id = id_fits w.method m.id wide;
+      id = id_fits w.method m.id i.0;
       name = short TEXT_LIMIT m.name (omega arith) l.0;
       signature = short TEXT_LIMIT m.signature (omega arith) l.1.0;
       lines = short LIST_LIMIT m.lines (omega arith) l.1.1.0;
       slots = short LIST_LIMIT m.slots (omega arith) l.1.1.1.0;
       each_slot = with_each (λ (x : SlotPart). slot_passes x ≡ false) SlotIsSound slot_sound m.slots (none_passes slot_passes m.slots l.1.1.1.1.0);
+      returns = if_each (λ (v : Literal). literal_wide w v ≡ false) (ValueFits w) (literal_fits w) m.returns (if_none (literal_wide w) m.returns i.1);
     }
 
 class_sound : (w : Widths) (c : ClassPart) → class_passes c ≡ false → class_wide w c ≡ false → ClassIsSound w c
@@ -216,6 +220,68 @@ length_rising key (x ∷ xs) = length_put key x (rising key xs) ∙ ap suc (leng
 
 short_rising : {A : Type 0} (key : A → ℕ) (xs : List A) → IsShort xs → IsShort (rising key xs)
 short_rising key xs h = rw (length_rising key xs) h
+
+-- ---- no id of a script stands above its greatest one
+
+-- each stands at or before those behind it
+abbrev Rises : {A : Type 0} → (A → ℕ) → List A → Type 0
+Rises key [] = Unit {0}
+Rises key (x ∷ xs) = AllByRecursion (λ y. key x ≤ key y) xs × Rises key xs
+
+rises_put : {A : Type 0} (key : A → ℕ) (x : A) (xs : List A) → Rises key xs → Rises key (put_in key x xs)
+rises_put key x [] h = (tt, tt)
+rises_put key x (y ∷ ys) h = elim (either (nat_le (key x) (key y))) [
+  | inl k ↦
+      let le = leb-true (key x) (key y) k in
+      rw k ((le, with_each (λ z. key y ≤ key z) (λ z. key x ≤ key z) (λ z more. omega arith) ys h.0), h)
+  | inr k ↦
+      let lt = leb-false (key x) (key y) k in
+      rw k (all_put key (λ z. key y ≤ key z) x ys (omega arith) h.0, rises_put key x ys h.1)
+]
+
+rises_rising : {A : Type 0} (key : A → ℕ) (xs : List A) → Rises key (rising key xs)
+rises_rising key [] = tt
+rises_rising key (x ∷ xs) = rises_put key x (rising key xs) (rises_rising key xs)
+
+last_behind : {A : Type 0} (key : A → ℕ) (x y : A) (ys : List A) → last_id key (x ∷ y ∷ ys) ≡ last_id key (y ∷ ys)
+last_behind key x y ys =
+    let longer : length (x ∷ y ∷ ys) - 1 ≡ suc (length ys) = omega arith in
+    let shorter : length (y ∷ ys) - 1 ≡ length ys = omega arith in
+    rw (longer, shorter) refl
+
+within_last : {A : Type 0} (key : A → ℕ) (xs : List A) → Rises key xs → AllByRecursion (λ x. key x ≤ last_id key xs) xs
+within_last key [] h = tt
+within_last key (x ∷ []) h = (omega arith, tt)
+within_last key (x ∷ y ∷ ys) h =
+    let rest = within_last key (y ∷ ys) h.1 in
+    let first = h.0.0 in
+    let next = rest.0 in
+    let P : ℕ → Type 0 = λ n. AllByRecursion (λ z. key z ≤ n) (x ∷ y ∷ ys) in
+    subst P (sym (last_behind key x y ys)) (omega arith, rest)
+
+-- where the last one is within a number, all are
+rising_within : {A : Type 0} (key : A → ℕ) (xs : List A) (n : ℕ) → last_id key (rising key xs) ≤ n → AllByRecursion (λ x. key x ≤ n) (rising key xs)
+rising_within key xs n h =
+    with_each (λ x. key x ≤ last_id key (rising key xs)) (λ x. key x ≤ n) (λ x le. omega arith) (rising key xs) (within_last key (rising key xs) (rises_rising key xs))
+
+arranged_within : (s : ScriptPart) → AreWithin (greatest_id (arranged s)) (arranged s)
+arranged_within s =
+    let groups = last_id (λ (g : GroupPart). g.id) (arranged s).groups in
+    let threads = last_id (λ (t : ThreadPart). t.id) (arranged s).threads in
+    let objects = last_id (λ (o : ObjectPart). o.id) (arranged s).objects in
+    let modules = last_id (λ (m : ModulePart). m.id) (arranged s).modules in
+    let left = le-max_left (max groups threads) (max objects modules) in
+    let right = le-max_right (max groups threads) (max objects modules) in
+    let group = le-max_left groups threads in
+    let thread = le-max_right groups threads in
+    let object = le-max_left objects modules in
+    let last = le-max_right objects modules in
+    record {
+      groups = rising_within (λ (g : GroupPart). g.id) s.groups (greatest_id (arranged s)) (omega arith);
+      threads = rising_within (λ (t : ThreadPart). t.id) s.threads (greatest_id (arranged s)) (omega arith);
+      objects = rising_within (λ (o : ObjectPart). o.id) s.objects (greatest_id (arranged s)) (omega arith);
+      modules = rising_within (λ (m : ModulePart). m.id) s.modules (greatest_id (arranged s)) (omega arith);
+    }
 
 -- ---- no id twice
 
@@ -321,13 +387,17 @@ opening_ids : (script : ScriptPart) (ts : List ThreadPart) → thread_ids (map (
 opening_ids script [] = refl
 opening_ids script (t ∷ ts) = ap (λ ns. t.id ∷ ns) (opening_ids script ts)
 
-opening_of_sound : (script : ScriptPart) → ScriptIsSound script → IsDistinct (λ (a b : ℕ). a == b) (map (λ (t : ThreadPart). t.id) script.threads) → IsSound (opening_of script)
-opening_of_sound script sound distinct =
+opening_of_sound : (script : ScriptPart) → ScriptIsSound script → IsDistinct (λ (a b : ℕ). a == b) (map (λ (t : ThreadPart). t.id) script.threads) → AreWithin (greatest_id script) script → IsSound (opening_of script)
+opening_of_sound script sound distinct within =
     record {
       script = sound;
       threads = rw (length-map script.threads (opening_thread script)) sound.threads;
       each_thread = each_mapped (ThreadIsSound script.sizes) (ThreadNowIsSound script.sizes) (opening_thread script) (opening_thread_sound script.sizes script) script.threads sound.each_thread;
       distinct = rw (opening_ids script script.threads) distinct;
+      within = within;
+      few_made = omega arith;
+      each_made = tt;
+      counted = tt;
     }
 
 thread_ids_distinct : (s : ScriptPart) → has_id_twice s ≡ false → IsDistinct (λ (a b : ℕ). a == b) (map (λ (t : ThreadPart). t.id) (rising (λ (t : ThreadPart). t.id) s.threads))
@@ -336,4 +406,4 @@ thread_ids_distinct s h =
     distinct_rising (λ (t : ThreadPart). t.id) s.threads (distinct_all (twice.thread_ids s.threads) (twice_back ((group_ids s.groups ++ object_ids s.objects) ++ module_ids s.modules) (twice.thread_ids s.threads) shared.0))
 
 pub opening_sound : (live : ℕ) (s : ScriptPart) → passes_limit live s ≡ false → has_id_twice s ≡ false → has_wide_id s ≡ false → IsSound (opening s)
-opening_sound live s limits apart wide = opening_of_sound (arranged s) (arranged_sound live s limits wide) (thread_ids_distinct s apart)
+opening_sound live s limits apart wide = opening_of_sound (arranged s) (arranged_sound live s limits wide) (thread_ids_distinct s apart) (arranged_within s)

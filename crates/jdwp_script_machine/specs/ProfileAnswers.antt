@@ -7,11 +7,11 @@ use Rattle.jdwp_machine.specs.declared.query.Query.{Query}
 use Rattle.jdwp_script_machine.specs.States.{State}
 use Rattle.jdwp_script_machine.specs.Requests.{Asks}
 use Rattle.jdwp_script_machine.specs.Answers.{answer_at}
-use Rattle.jdwp_script_machine.specs.JdiAnswers.{jdi_answer_at}
+use Rattle.jdwp_script_machine.specs.InvocationAnswers.{invoking_answer_at}
 
 abbrev pub answer_in : Profile → State → ℕ → ℕ → Asks
 answer_in Standard s set number content = answer_at s set number content
-answer_in Jdi s set number content = jdi_answer_at s set number content
+answer_in Jdi s set number content = invoking_answer_at s set number content
 
 abbrev pub answer : State → Query → Answer
 answer s q = answer_in s.profile s q.set q.number q.content

@@ -8,7 +8,7 @@ use Rattle.jdwp_layout.specs.declared.answer.Answer.TheVariants.{Error}
 use Rattle.jdwp_layout.specs.Meanings.{ScalarMeaning, Int, Object, ReferenceType, Method, Frame, DatumMeaning, One, Many}
 use Rattle.jdwp_script.specs.Parts.{GroupPart, MethodPart, ClassPart, ObjectPart, ThreadPart, ModulePart, ScriptPart}
 use Rattle.jdwp_script_machine.specs.States.{FrameNow, State, is_prepared}
-use Rattle.jdwp_script_machine.specs.Sites.{class_in, method_in, object_in, group_in, thread_in, module_in}
+use Rattle.jdwp_script_machine.specs.Sites.{class_in, method_in, object_at, group_in, thread_in, module_in}
 use Rattle.jdwp_script_machine.specs.SlotWrites.{frame_in}
 
 -- what a command answers by the data that are left
@@ -43,9 +43,10 @@ of_method_in answer c content = Error ILLEGAL_ARGUMENT
 abbrev pub of_method : ScriptPart → (ClassPart → MethodPart → Asks) → Asks
 of_method script answer = of_class script (of_method_in answer)
 
-abbrev pub of_object : ScriptPart → (ObjectPart → Asks) → Asks
-of_object script answer (One (Object id) ∷ rest) = found_or INVALID_OBJECT (λ (o : ObjectPart). answer o rest) (object_in script id)
-of_object script answer content = Error ILLEGAL_ARGUMENT
+-- an object of the script, or one that was made
+abbrev pub of_object : State → (ObjectPart → Asks) → Asks
+of_object s answer (One (Object id) ∷ rest) = found_or INVALID_OBJECT (λ (o : ObjectPart). answer o rest) (object_at s id)
+of_object s answer content = Error ILLEGAL_ARGUMENT
 
 abbrev pub of_group : ScriptPart → (GroupPart → Asks) → Asks
 of_group script answer (One (Object id) ∷ rest) = found_or INVALID_THREAD_GROUP (λ (g : GroupPart). answer g rest) (group_in script id)

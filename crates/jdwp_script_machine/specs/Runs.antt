@@ -1,4 +1,4 @@
--- What becomes of a machine: the states that steps, ends and writes of slots lead to, and who has used up the steps of the script.
+-- What becomes of a machine: the states that steps, ends, writes of slots and made strings lead to, and who has used up the steps of the script.
 use Rattle.std.specs.Prelude.{◌≡◌, ℕ, ℤ, ◌-◌, Bool, true, false, List, [], ◌∷◌, length, slice_get, Option, Some, None, option_and_then}
 use Rattle.jdwp_value.specs.declared.value.Value.{Value}
 use Rattle.jdwp_event.specs.Occurrences.{runs_out}
@@ -9,23 +9,27 @@ use Rattle.jdwp_script_machine.specs.States.{State, living, thread_at}
 use Rattle.jdwp_script_machine.specs.Sites.{thread_in}
 use Rattle.jdwp_script_machine.specs.Steps.{next_step, next, stepped, ended}
 use Rattle.jdwp_script_machine.specs.SlotWrites.{written}
+use Rattle.jdwp_script_machine.specs.Made.{made}
 
--- what is done to a machine: a thread steps, it ends, or slots of a frame of it are written
+-- what is done to a machine: a thread steps, it ends, slots of a frame of it are written, or a string of a text is made
 pub data Deed : Type 0 where
   Steps : ℕ → Deed
   Ends : ℕ → Deed
   Writes : ℕ → ℕ → List (ℤ × Value) → Deed
+  Makes : List ℕ → Deed
 
 abbrev pub after : State → Deed → State
 after s (Steps t) = stepped s t
 after s (Ends t) = ended s t
 after s (Writes t f values) = written s t f values
+after s (Makes text) = made s text
 
 -- a thread that lives may end, and may step where it has not run out
 abbrev pub MayBe : State → Deed → Type 0
 MayBe s (Steps t) = (has (living s.threads) t ≡ true) × (runs_out (next s t) ≡ false)
 MayBe s (Ends t) = has (living s.threads) t ≡ true
 MayBe s (Writes t f values) = Unit {0}
+MayBe s (Makes text) = Unit {0}
 
 -- one after the other
 abbrev pub after_all : State → List Deed → State

@@ -1,5 +1,5 @@
 -- A script is a lawful machine.
-use Rattle.std.proofs.Common.{◌≡◌, ℕ, ℤ, pos, ◌==◌, ◌||◌, ◌&&◌, Bool, true, false, not, nat_lt, if◌then◌else◌, List, [], ◌∷◌, refl, sym, ◌∙◌, ap, arith, Option, Some, None, inl, inr}
+use Rattle.std.proofs.Common.{◌≡◌, ℕ, ℤ, pos, ◌==◌, ◌||◌, ◌&&◌, Bool, true, false, not, nat_lt, if◌then◌else◌, List, [], ◌∷◌, refl, sym, ◌∙◌, ap, arith, Option, Some, None, option_map, inl, inr}
 use Rattle.jdwp_wire.specs.declared.error_code.ErrorCode.{ErrorCode}
 use Rattle.jdwp_wire.specs.ErrorCodes.{INVALID_OBJECT, INVALID_CLASS, INVALID_METHODID, INVALID_LOCATION, INVALID_FRAMEID, TYPE_MISMATCH, INVALID_SLOT}
 use Rattle.std.specs.List.{list_all}
@@ -12,19 +12,22 @@ use Rattle.jdwp_layout.specs.CommandNumbers.{is_command, VIRTUAL_MACHINE, REFERE
 use Rattle.jdwp_layout.specs.Meanings.{Int, DatumMeaning, One}
 use Rattle.jdwp_event.specs.Occurrences.{runs_out, started}
 use Rattle.jdwp_machine.specs.Meanings.{has}
+use Rattle.jdwp_machine.specs.Profiles.{CREATE_STRING}
 use Rattle.jdwp_machine.specs.Laws.{IsLawful, IsMachineError, IsLocationAnswer, breakpoint_at, is_named}
 use Rattle.jdwp_script.specs.Parts.{MethodPart, ClassPart, ScriptPart}
+use Rattle.jdwp_script_machine.specs.LookUps.{with_id}
 use Rattle.jdwp_script_machine.specs.States.{State, Life, FrameNow, ThreadNow, is_living, has_begun, living, begun, thread_at}
 use Rattle.jdwp_script_machine.specs.Sites.{class_in, method_in}
 use Rattle.jdwp_script_machine.specs.Steps.{next, stepped, gone, ended}
 use Rattle.jdwp_script_machine.specs.SlotWrites.{has_slot, slot_value, found_suits, may_hold, frame_refusal, frame_in, thread_refusal, thread_written, write_refusal, answer_of_refusal, write_answer, written_by, written}
 use Rattle.jdwp_script_machine.specs.Requests.{found_or}
-use Rattle.jdwp_script_machine.specs.ThreadAnswers.{index_answer, location_in_class, location_answer}
+use Rattle.jdwp_script_machine.specs.ThreadAnswers.{frames_at, index_answer, location_in_class, location_answer}
 use Rattle.jdwp_machine.specs.declared.profile.Profile.{Profile}
 use Rattle.jdwp_machine.specs.declared.profile.Profile.TheVariants.{Standard, Jdi}
 use Rattle.jdwp_script_machine.specs.Answers.{answer_at}
 use Rattle.jdwp_script_machine.specs.ProfileAnswers.{answer_in, answer}
 use Rattle.jdwp_script_machine.specs.JdiAnswerLaws.{jdi_good}
+use Rattle.jdwp_script_machine.specs.InvocationAnswerLaws.{invoking_good}
 use Rattle.jdwp_script_machine.specs.Sound.{Fits, IsSound}
 use Rattle.jdwp_script_machine.specs.ScriptMeaning.{script_meaning}
 use Rattle.jdwp_script_machine.specs.StateLaws.{in_life, with_change, has_living, living_begun, change_within, change_out, living_distinct}
@@ -37,6 +40,8 @@ use Rattle.jdwp_script_machine.specs.ModuleAnswerLaws.{modules_answered}
 use Rattle.jdwp_script_machine.specs.ThreadAnswerLaws.{threads_answered, stack_frames_answered, set_answered}
 use Rattle.jdwp_script_machine.specs.FrameLaws.{stepped_frames, ended_frames, written_frames, written_script, frames_same, places_written, command_is}
 use Rattle.jdwp_script_machine.specs.SlotLaws.{values_written}
+use Rattle.jdwp_script_machine.specs.Made.{made_answer, made}
+use Rattle.jdwp_script_machine.specs.MadeLaws.{made_sound, made_script, made_threads, next_stays, refused_make, made_good}
 use Rattle.jdwp_script_machine.specs.HappeningLaws.{next_good, next_thread_fits, has_id_fits, in_life_has_id}
 
 -- ---- answers
@@ -59,7 +64,8 @@ answer_good s sound set number content =
 
 answer_in_good : (p : Profile) (s : State) → IsSound s → (set number : ℕ) (content : List DatumMeaning) → Good s (command_at set number) (answer_in p s set number content)
 answer_in_good Standard s sound set number content = answer_good s sound set number content
-answer_in_good Jdi s sound set number content = jdi_good s sound set number content (answer_good s sound set number content)
+answer_in_good Jdi s sound set number content =
+    invoking_good s sound set number content (jdi_good s sound set number content (answer_good s sound set number content))
 
 -- ---- refused writes
 
@@ -78,14 +84,14 @@ slots_refused true true false = above INVALID_OBJECT (omega arith) (omega arith)
 slots_refused true false c = above TYPE_MISMATCH (omega arith) (omega arith)
 slots_refused false b c = above INVALID_SLOT (omega arith) (omega arith)
 
-frame_refused : (script : ScriptPart) (values : List (ℤ × Value)) (o : Option FrameNow) → MayRefuse (frame_refusal script values o)
-frame_refused script values None = above INVALID_FRAMEID (omega arith) (omega arith)
-frame_refused script values (Some f) =
-    slots_refused (list_all (λ (v : ℤ × Value). has_slot f.slots v.0) values) (list_all (λ (v : ℤ × Value). found_suits (slot_value v.0 f.slots) (tag_of v.1)) values) (list_all (λ (v : ℤ × Value). may_hold script v.1) values)
+frame_refused : (s : State) (values : List (ℤ × Value)) (o : Option FrameNow) → MayRefuse (frame_refusal s values o)
+frame_refused s values None = above INVALID_FRAMEID (omega arith) (omega arith)
+frame_refused s values (Some f) =
+    slots_refused (list_all (λ (v : ℤ × Value). has_slot f.slots v.0) values) (list_all (λ (v : ℤ × Value). found_suits (slot_value v.0 f.slots) (tag_of v.1)) values) (list_all (λ (v : ℤ × Value). may_hold s v.1) values)
 
-thread_refused : (script : ScriptPart) (f : ℕ) (values : List (ℤ × Value)) (o : Option ThreadNow) → MayRefuse (thread_refusal script f values o)
-thread_refused script f values None = above INVALID_OBJECT (omega arith) (omega arith)
-thread_refused script f values (Some e) = frame_refused script values (frame_in f e.frames)
+thread_refused : (s : State) (f : ℕ) (values : List (ℤ × Value)) (o : Option ThreadNow) → MayRefuse (thread_refusal s f values o)
+thread_refused s f values None = above INVALID_OBJECT (omega arith) (omega arith)
+thread_refused s f values (Some e) = frame_refused s values (frame_in f e.frames)
 
 write_data : (s : State) → Good s SET_SLOTS (Data [])
 unfolding Good
@@ -115,6 +121,9 @@ live_begun s t h = living_begun s.threads t (sym (has_living s.threads t) ∙ h)
 
 live_fits : (s : State) → IsSound s → (t : ℕ) → has (living s.threads) t ≡ true → Fits s.script.sizes.object t
 live_fits s sound t h = has_id_fits s.script.sizes s.threads t sound.each_thread (in_life_has_id is_living s.threads t (sym (has_living s.threads t) ∙ h))
+
+made_frames : (s : State) (text : List ℕ) (u : ℕ) → frames_at (made s text) u ≡ frames_at s u
+made_frames s text u = ap (λ (es : List ThreadNow). option_map (λ (e : ThreadNow). e.frames) (with_id (λ (e : ThreadNow). e.id) u es)) (made_threads s text)
 
 -- ---- the test of a location
 
@@ -161,17 +170,25 @@ script_lawful =
       live_written = λ s t f values u sound. live_written s t f values u;
       ever_written = λ s t f values u sound. written_life has_begun s t f values u (write_refusal s t f values);
       refused_write = λ s t f values e sound h. refused_by s t f values e (write_refusal s t f values) h;
+      state_made = λ s text sound. made_sound s text sound;
+      live_made = λ s text u sound. ap (λ (es : List ThreadNow). has (living es) u) (made_threads s text);
+      ever_made = λ s text u sound. ap (λ (es : List ThreadNow). begun es u) (made_threads s text);
+      next_made = λ s text t may. next_stays s text t;
+      refused_make = λ s text e sound h. refused_make s text e h;
       sizes_are_widths = λ s sound. sound.script.widths;
       sizes_stepped = λ s t may. ap (λ (x : ScriptPart). x.sizes) (stepped_script s t);
       sizes_ended = λ s t may. refl;
       sizes_written = λ s t f values sound. ap (λ (x : ScriptPart). x.sizes) (written_script s t f values);
+      sizes_made = λ s text sound. ap (λ (x : ScriptPart). x.sizes) (made_script s text);
+      frames_made = λ s text u q sound h. frames_same s (made s text) u q (made_script s text) (made_frames s text u) h;
       frames_stepped = λ s t u q may ne h. frames_same s (stepped s t) u q (stepped_script s t) (stepped_frames s t u ne) h;
       frames_ended = λ s t u q may ne h. frames_same s (ended s t) u q refl (ended_frames s t u ne) h;
       frames_written = λ s t f u values q sound ne h. frames_same s (written s t f values) u q (written_script s t f values) (written_frames s t f u values ne) h;
       places_written = λ s t f values q sound h. places_written s t f values q h;
       values_written = λ s t f values q sound h. values_written s t f values q h;
       answers = λ s q sound. from_good s (command_at q.set q.number) (answer s q) (answer_in_good s.profile s sound q.set q.number q.content);
-      write_answers = λ s t f values sound. from_good s SET_SLOTS (write_answer s t f values) (write_by s (write_refusal s t f values) (thread_refused s.script f values (thread_at s t)));
+      write_answers = λ s t f values sound. from_good s SET_SLOTS (write_answer s t f values) (write_by s (write_refusal s t f values) (thread_refused s f values (thread_at s t)));
+      make_answers = λ s text sound. from_good s CREATE_STRING (made_answer s text) (made_good s text);
       short_signature = λ s t may. (next_good s may.0 t).short;
       live_fits = λ s t sound h. live_fits s sound t h;
       thread_fits = λ s t may. next_thread_fits s may.0 t (live_fits s may.0 t may.1);

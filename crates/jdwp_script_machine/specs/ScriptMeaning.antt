@@ -3,6 +3,7 @@ use Rattle.jdwp_machine.specs.Meanings.{Meaning}
 use Rattle.jdwp_script_machine.specs.States.{State, living, begun}
 use Rattle.jdwp_script_machine.specs.Steps.{next, stepped, ended}
 use Rattle.jdwp_script_machine.specs.SlotWrites.{write_answer, written}
+use Rattle.jdwp_script_machine.specs.Made.{made_answer, made}
 use Rattle.jdwp_script_machine.specs.ProfileAnswers.{answer}
 use Rattle.jdwp_script_machine.specs.Sound.{IsSound}
 
@@ -19,4 +20,6 @@ script_meaning =
       query = answer;
       write_answer = write_answer;
       written = written;
+      made_answer = made_answer;
+      made = made;
     }

@@ -1,6 +1,8 @@
--- What a script has: its classes, methods, objects and modules by their ids, places in methods, and what filters read of them.
+-- What a script has: its classes, methods, objects and modules by their ids, places in methods, and what filters read of them; and what a
+-- machine has beside, strings that were made.
 use Rattle.std.specs.Prelude.{ℕ, ◌==◌, ◌||◌, Bool, false, List, [], ◌∷◌, map, filter, length, nat_le, zero, suc, if◌then◌else◌, Option, Some, None, option_map, option_and_then}
 use Rattle.std.specs.List.{list_any}
+use Rattle.std.specs.Option.{option_or}
 use Rattle.std.specs.Int.RustNames.{unsigned_abs}
 use Rattle.jdwp_value.specs.declared.location.Location.{Location}
 use Rattle.jdwp_value.specs.declared.location.Location.TheVariants.{Null, At}
@@ -12,7 +14,7 @@ use Rattle.jdwp_event.specs.Occurrences.{ClassMeaning, PlaceMeaning}
 use Rattle.jdwp_script.specs.declared.script.Line.{Line}
 use Rattle.jdwp_script.specs.Parts.{GroupPart, MethodPart, ClassPart, ObjectPart, ElementsPart, ThreadPart, ModulePart, ScriptPart}
 use Rattle.jdwp_script_machine.specs.LookUps.{with_id, is_some}
-use Rattle.jdwp_script_machine.specs.States.{FrameNow}
+use Rattle.jdwp_script_machine.specs.States.{FrameNow, State}
 
 abbrev pub class_in : ScriptPart → ℕ → Option ClassPart
 class_in script id = with_id (λ (c : ClassPart). c.id) id script.classes
@@ -32,9 +34,13 @@ thread_in script id = with_id (λ (t : ThreadPart). t.id) id script.threads
 abbrev pub module_in : ScriptPart → ℕ → Option ModulePart
 module_in script id = with_id (λ (m : ModulePart). m.id) id script.modules
 
+-- the object of an id, of the script or made
+abbrev pub object_at : State → ℕ → Option ObjectPart
+object_at s id = option_or (object_in s.script id) (with_id (λ (o : ObjectPart). o.id) id s.made)
+
 -- whether an id is that of an object, a thread or a group
-abbrev pub is_known : ScriptPart → ℕ → Bool
-is_known script id = is_some (object_in script id) || (is_some (thread_in script id) || is_some (group_in script id))
+abbrev pub is_known : State → ℕ → Bool
+is_known s id = is_some (object_at s id) || (is_some (thread_in s.script id) || is_some (group_in s.script id))
 
 -- ---- objects
 

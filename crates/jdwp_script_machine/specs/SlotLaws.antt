@@ -1,8 +1,8 @@
 -- Proofs that a write of slots leaves which questions for slots are refused, and how many values are answered.
-use Rattle.std.proofs.Common.{◌≡◌, ◌≢◌, ℕ, suc, ℤ, ◌^◌, ◌==◌, ◌&&◌, ◌||◌, Bool, true, false, not, nat_lt, if◌then◌else◌, List, [], ◌∷◌, map, length, refl, sym, ◌∙◌, ap, ap₂, subst, Option, Some, None, option_map, ◌⊎◌, inl, inr}
+use Rattle.std.proofs.Common.{◌≡◌, ◌≢◌, ℕ, suc, ℤ, ◌^◌, ◌==◌, ◌&&◌, ◌||◌, Bool, true, false, not, nat_lt, if◌then◌else◌, List, [], ◌∷◌, map, length, refl, sym, ◌∙◌, ap, ap₂, subst, Option, Some, None, option_map, inl, inr}
 use Rattle.std.proofs.lemmas.Bool.{eqb-true, eq-eqb, false≢true}
 use Rattle.std.proofs.lemmas.Bool.Decides.{Decides-int_eq}
-use Rattle.std.specs.List.{list_any, list_all}
+use Rattle.std.specs.List.{list_all}
 use Rattle.std.specs.Ordering.{int_eq}
 use Rattle.jdwp_wire.specs.declared.error_code.ErrorCode.{ErrorCode}
 use Rattle.jdwp_wire.specs.ErrorCodes.{INVALID_OBJECT, INVALID_FRAMEID, TYPE_MISMATCH, INVALID_SLOT, ILLEGAL_ARGUMENT}
@@ -18,10 +18,9 @@ use Rattle.jdwp_layout.specs.CommandNumbers.{is_command, GET_SLOTS}
 use Rattle.jdwp_layout.specs.Meanings.{ScalarMeaning, Byte, Int, Object, Frame, DatumMeaning, One, Many}
 use Rattle.jdwp_machine.specs.declared.query.Query.{Query}
 use Rattle.jdwp_machine.specs.Laws.{begins_with, asks_slots, KeepsValues}
-use Rattle.jdwp_script.specs.Parts.{ScriptPart}
-use Rattle.jdwp_script_machine.specs.LookUps.{with_id, changed}
+use Rattle.jdwp_script_machine.specs.LookUps.{changed}
 use Rattle.jdwp_script_machine.specs.States.{SlotNow, FrameNow, ThreadNow, State, thread_at}
-use Rattle.jdwp_script_machine.specs.SlotWrites.{slot_value, has_slot, suits, found_suits, may_hold, slots_refusal, frame_refusal, frame_in, thread_refusal, slot_written, slots_written, frame_written, thread_written, write_refusal, written_by, written}
+use Rattle.jdwp_script_machine.specs.SlotWrites.{slot_value, has_slot, suits, found_suits, may_hold, frame_refusal, frame_in, thread_refusal, slot_written, slots_written, frame_written, thread_written, write_refusal, written_by, written}
 use Rattle.jdwp_script_machine.specs.Requests.{found_or, of_frames, of_frame_in, of_entries}
 use Rattle.jdwp_script_machine.specs.ThreadAnswers.{frames_at, entry_has_slot, byte_suits, entry_suits, with_entry, entry_slot, slot_entries, slots_asked, slots_answer}
 use Rattle.jdwp_script_machine.specs.Answers.{answer_at}
@@ -224,11 +223,11 @@ suit_where_written true true c h = refl
 suit_where_written true false c h = absurd cc
 suit_where_written false b c h = absurd cc
 
-frame_alike : (script : ScriptPart) (values : List (ℤ × Value)) (o : Option FrameNow) → frame_refusal script values o ≡ None → (content : List DatumMeaning)
+frame_alike : (s : State) (values : List (ℤ × Value)) (o : Option FrameNow) → frame_refusal s values o ≡ None → (content : List DatumMeaning)
     → KeepsValues (found_or INVALID_FRAMEID (λ (f : FrameNow). slots_answer f content) o) (found_or INVALID_FRAMEID (λ (f : FrameNow). slots_answer f content) (option_map (frame_written values) o))
-frame_alike script values None h content = refl
-frame_alike script values (Some f) h content =
-    let suit = suit_where_written (list_all (λ (v : ℤ × Value). has_slot f.slots v.0) values) (all_suit f.slots values) (list_all (λ (v : ℤ × Value). may_hold script v.1) values) h in
+frame_alike s values None h content = refl
+frame_alike s values (Some f) h content =
+    let suit = suit_where_written (list_all (λ (v : ℤ × Value). has_slot f.slots v.0) values) (all_suit f.slots values) (list_all (λ (v : ℤ × Value). may_hold s v.1) values) h in
     slots_alike f.slots (slots_written values f.slots) (all_written values f.slots suit) content
 
 frame_changed : (change : FrameNow → FrameNow) → ((f : FrameNow) → (change f).id ≡ f.id) → (fs : List FrameNow) (n : ℕ) → frame_in n (changed (λ (f : FrameNow). f.id) n change fs) ≡ option_map change (frame_in n fs)
@@ -241,27 +240,27 @@ frame_changed change ids (f ∷ fs) n = elim (either (f.id == n)) [
 not_same : (a b : ℕ) → (a == b) ≡ false → a ≢ b
 not_same a b h = λ same. false≢true (sym h ∙ eq-eqb a b same)
 
-frames_alike : (script : ScriptPart) (f : ℕ) (values : List (ℤ × Value)) (fs : List FrameNow) → frame_refusal script values (frame_in f fs) ≡ None → (content : List DatumMeaning)
+frames_alike : (s : State) (f : ℕ) (values : List (ℤ × Value)) (fs : List FrameNow) → frame_refusal s values (frame_in f fs) ≡ None → (content : List DatumMeaning)
     → KeepsValues (of_frame_in slots_answer fs content) (of_frame_in slots_answer (changed (λ (x : FrameNow). x.id) f (frame_written values) fs) content)
-frames_alike script f values fs h (One (Frame id) ∷ rest) = elim (either (f == id)) [
+frames_alike s f values fs h (One (Frame id) ∷ rest) = elim (either (f == id)) [
   | inl k ↦ let same : f ≡ id = eqb-true f id k in
-      rw (← same, frame_changed (frame_written values) (λ f. refl) fs f) (frame_alike script values (frame_in f fs) h rest)
+      rw (← same, frame_changed (frame_written values) (λ f. refl) fs f) (frame_alike s values (frame_in f fs) h rest)
   | inr k ↦ rw (found_other (λ (x : FrameNow). x.id) (frame_written values) (λ f. refl) fs f id (not_same f id k)) (keeps_refl (found_or INVALID_FRAMEID (λ (f : FrameNow). slots_answer f rest) (frame_in id fs)))
 ]
-frames_alike script f values fs h content = refl
+frames_alike s f values fs h content = refl
 
-thread_alike : (script : ScriptPart) (f : ℕ) (values : List (ℤ × Value)) (o : Option ThreadNow) → thread_refusal script f values o ≡ None → (content : List DatumMeaning)
+thread_alike : (s : State) (f : ℕ) (values : List (ℤ × Value)) (o : Option ThreadNow) → thread_refusal s f values o ≡ None → (content : List DatumMeaning)
     → KeepsValues (found_or INVALID_OBJECT (λ (fs : List FrameNow). of_frame_in slots_answer fs content) (option_map (λ (e : ThreadNow). e.frames) o))
     (found_or INVALID_OBJECT (λ (fs : List FrameNow). of_frame_in slots_answer fs content) (option_map (λ (e : ThreadNow). e.frames) (option_map (thread_written f values) o)))
-thread_alike script f values None h content = refl
-thread_alike script f values (Some e) h content = frames_alike script f values e.frames h content
+thread_alike s f values None h content = refl
+thread_alike s f values (Some e) h content = frames_alike s f values e.frames h content
 
 asked_of : (s : State) (t f : ℕ) (values : List (ℤ × Value)) (r : Option ErrorCode) → write_refusal s t f values ≡ r → (content : List DatumMeaning) → begins_with content t ≡ true
     → KeepsValues (of_frames (frames_at s) (of_frame_in slots_answer) content) (of_frames (frames_at (written_by s t f values r)) (of_frame_in slots_answer) content)
 asked_of s t f values (Some e) h content begins = keeps_refl (of_frames (frames_at s) (of_frame_in slots_answer) content)
 asked_of s t f values None h (One (Object n) ∷ rest) begins =
     let is : n ≡ t = eqb-true n t begins in
-    rw (is, found_changed (thread_written f values) (λ e. refl) s.threads t) (thread_alike s.script f values (thread_at s t) h rest)
+    rw (is, found_changed (thread_written f values) (λ e. refl) s.threads t) (thread_alike s f values (thread_at s t) h rest)
 asked_of s t f values None h content begins = absurd (false≢true begins)
 
 keeps_at : (s r : State) (t set number : ℕ) (content : List DatumMeaning) → (begins_with content t ≡ true → KeepsValues (of_frames (frames_at s) (of_frame_in slots_answer) content) (of_frames (frames_at r) (of_frame_in slots_answer) content))

@@ -11,7 +11,6 @@ use Rattle.jdwp_value.specs.Tags.{tag_byte}
 use Rattle.jdwp_value.specs.Values.{tag_of, is_object, is_void}
 use Rattle.jdwp_layout.specs.declared.answer.Answer.{Answer}
 use Rattle.jdwp_layout.specs.declared.answer.Answer.TheVariants.{Data, Error}
-use Rattle.jdwp_script.specs.Parts.{ScriptPart}
 use Rattle.jdwp_script_machine.specs.LookUps.{with_id, changed}
 use Rattle.jdwp_script_machine.specs.States.{SlotNow, FrameNow, ThreadNow, State, thread_at}
 use Rattle.jdwp_script_machine.specs.Sites.{is_known}
@@ -36,40 +35,40 @@ found_suits None asked = false
 found_suits (Some v) asked = suits (tag_of v) asked
 
 -- an object has to be null or known
-abbrev pub may_hold : ScriptPart → Value → Bool
-may_hold script (value.Object x) = (x.id.0 == 0) || is_known script x.id.0
-may_hold script (value.Byte n) = true
-may_hold script (value.Char n) = true
-may_hold script (value.Double n) = true
-may_hold script (value.Float n) = true
-may_hold script (value.Int n) = true
-may_hold script (value.Long n) = true
-may_hold script (value.Short n) = true
-may_hold script value.Void = true
-may_hold script (value.Boolean b) = true
+abbrev pub may_hold : State → Value → Bool
+may_hold s (value.Object x) = (x.id.0 == 0) || is_known s x.id.0
+may_hold s (value.Byte n) = true
+may_hold s (value.Char n) = true
+may_hold s (value.Double n) = true
+may_hold s (value.Float n) = true
+may_hold s (value.Int n) = true
+may_hold s (value.Long n) = true
+may_hold s (value.Short n) = true
+may_hold s value.Void = true
+may_hold s (value.Boolean b) = true
 
 -- Why values can't be written into these slots: first every slot is tested, then every tag, then every object.
-abbrev pub slots_refusal : ScriptPart → List SlotNow → List (ℤ × Value) → Option ErrorCode
-slots_refusal script slots values =
+abbrev pub slots_refusal : State → List SlotNow → List (ℤ × Value) → Option ErrorCode
+slots_refusal s slots values =
     if not (list_all (λ (v : ℤ × Value). has_slot slots v.0) values) then Some INVALID_SLOT else (
     if not (list_all (λ (v : ℤ × Value). found_suits (slot_value v.0 slots) (tag_of v.1)) values) then Some TYPE_MISMATCH else (
-    if not (list_all (λ (v : ℤ × Value). may_hold script v.1) values) then Some INVALID_OBJECT else
+    if not (list_all (λ (v : ℤ × Value). may_hold s v.1) values) then Some INVALID_OBJECT else
     None))
 
-abbrev pub frame_refusal : ScriptPart → List (ℤ × Value) → Option FrameNow → Option ErrorCode
-frame_refusal script values None = Some INVALID_FRAMEID
-frame_refusal script values (Some f) = slots_refusal script f.slots values
+abbrev pub frame_refusal : State → List (ℤ × Value) → Option FrameNow → Option ErrorCode
+frame_refusal s values None = Some INVALID_FRAMEID
+frame_refusal s values (Some f) = slots_refusal s f.slots values
 
 abbrev pub frame_in : ℕ → List FrameNow → Option FrameNow
 frame_in f fs = with_id (λ (x : FrameNow). x.id) f fs
 
-abbrev pub thread_refusal : ScriptPart → ℕ → List (ℤ × Value) → Option ThreadNow → Option ErrorCode
-thread_refusal script f values None = Some INVALID_OBJECT
-thread_refusal script f values (Some e) = frame_refusal script values (frame_in f e.frames)
+abbrev pub thread_refusal : State → ℕ → List (ℤ × Value) → Option ThreadNow → Option ErrorCode
+thread_refusal s f values None = Some INVALID_OBJECT
+thread_refusal s f values (Some e) = frame_refusal s values (frame_in f e.frames)
 
 -- why values can't be written into slots of a frame of a thread
 abbrev pub write_refusal : State → ℕ → ℕ → List (ℤ × Value) → Option ErrorCode
-write_refusal s t f values = thread_refusal s.script f values (thread_at s t)
+write_refusal s t f values = thread_refusal s f values (thread_at s t)
 
 -- ---- what is written
 

@@ -1,9 +1,10 @@
 -- What holds of every state of a script machine: its widths are 1 to 8, its ids fit them, its texts and lists are not too long for a
--- packet's counts, and no two threads have one id.
-use Rattle.std.specs.Prelude.{◌≡◌, ℕ, ◌≤◌, ◌==◌, List, map, length, Option, Some, None}
+-- packet's counts, no two threads have one id, and strings that were made have ids of their own.
+use Rattle.std.specs.Prelude.{◌≡◌, ℕ, suc, ◌≤◌, ◌==◌, List, [], ◌∷◌, map, length, Option, Some, None}
 use Rattle.std.specs.List.{AllByRecursion, IsDistinct}
 use Rattle.jdwp_wire.specs.Widths.{Widths, AreWidths}
 use Rattle.jdwp_wire.specs.Numbers.{id_refusal}
+use Rattle.jdwp_wire.specs.Text.{text_refusal}
 use Rattle.jdwp_value.specs.Values.{value_refusal}
 use Rattle.jdwp_script.specs.declared.script.FieldValue.{FieldValue}
 use Rattle.jdwp_script.specs.declared.step.SlotValue.{SlotValue}
@@ -13,6 +14,8 @@ use Rattle.jdwp_script.specs.Parts.{GroupPart, FieldPart, SlotPart, MethodPart, 
 use Rattle.jdwp_script_machine.specs.States.{SlotNow, FrameNow, ThreadNow, State}
 use Rattle.jdwp_machine.specs.Laws.{SIGNATURE_LIMIT}
 use Rattle.jdwp_script_machine.specs.Steps.{FRAME_LIMIT}
+use Rattle.jdwp_script_machine.specs.JdiAnswers.{greatest_id}
+use Rattle.jdwp_script_machine.specs.Made.{MADE_LIMIT, first_made}
 
 -- ---- words
 
@@ -49,6 +52,7 @@ pub record MethodIsSound (w : Widths) (m : MethodPart) : Type 0 where
   pub lines : IsShort m.lines
   pub slots : IsShort m.slots
   pub each_slot : AllByRecursion SlotIsSound m.slots
+  pub returns : IfThere (ValueFits w) m.returns
 
 pub record ClassIsSound (w : Widths) (c : ClassPart) : Type 0 where
   pub id : Fits w.reference c.id
@@ -133,8 +137,35 @@ pub record ThreadNowIsSound (w : Widths) (e : ThreadNow) : Type 0 where
 abbrev pub thread_ids : List ThreadNow → List ℕ
 thread_ids es = map (λ (e : ThreadNow). e.id) es
 
+-- ---- ids of strings that were made
+
+-- the ids of a script are no greater than this
+pub record AreWithin (n : ℕ) (s : ScriptPart) : Type 0 where
+  pub groups : AllByRecursion (λ (g : GroupPart). g.id ≤ n) s.groups
+  pub threads : AllByRecursion (λ (t : ThreadPart). t.id ≤ n) s.threads
+  pub objects : AllByRecursion (λ (o : ObjectPart). o.id ≤ n) s.objects
+  pub modules : AllByRecursion (λ (m : ModulePart). m.id ≤ n) s.modules
+
+-- what can be told of an object, of the script or made: ids and a text that fit a packet
+pub record ObjectFits (w : Widths) (o : ObjectPart) : Type 0 where
+  pub id : Fits w.object o.id
+  pub fields : AllByRecursion (λ (x : FieldValue). ValueFits w x.value) o.fields
+  pub text : IfThere (λ t. text_refusal t ≡ None) o.text
+  pub array : IfThere (ElementsAreSound w) o.array
+
+-- these have one id after the other, from this one on
+abbrev pub AreCounted : ℕ → List ObjectPart → Type 0
+AreCounted n [] = Unit {0}
+AreCounted n (o ∷ os) = (o.id ≡ n) × AreCounted (suc n) os
+
+-- ---- all of it
+
 pub record IsSound (s : State) : Type 0 where
   pub script : ScriptIsSound s.script
   pub threads : IsShort s.threads
   pub each_thread : AllByRecursion (ThreadNowIsSound s.script.sizes) s.threads
   pub distinct : IsDistinct (λ (a b : ℕ). a == b) (thread_ids s.threads)
+  pub within : AreWithin (greatest_id s.script) s.script
+  pub few_made : length s.made ≤ MADE_LIMIT
+  pub each_made : AllByRecursion (ObjectFits s.script.sizes) s.made
+  pub counted : AreCounted (first_made s.script) s.made

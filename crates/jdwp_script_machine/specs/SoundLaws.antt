@@ -1,11 +1,13 @@
--- Proofs that a state stays sound: after a step, an end, and written slots.
+-- Proofs that a state stays sound: after a step, an end, and written slots; and what of objects fits.
 use Rattle.std.proofs.Common.{◌≡◌, ℕ, zero, suc, ℤ, ◌^◌, ◌<◌, ◌≤◌, ◌==◌, ◌||◌, ◌&&◌, Bool, true, false, not, nat_lt, if◌then◌else◌, List, [], ◌∷◌, map, drop, length, refl, sym, ◌∙◌, arith, Option, Some, None, option_and_then, inl, inr}
 use Rattle.std.proofs.lemmas.Bool.{eqb-true, eq-eqb, false≢true, lt-ltb, ltb-true}
 use Rattle.std.proofs.lemmas.List.{length-map}
 use Rattle.std.proofs.Math.Nat.{one-le-pow}
 use Rattle.std.specs.List.{list_all, slice_get, AllByRecursion, IsDistinct}
+use Rattle.std.specs.Option.{option_or}
 use Rattle.std.specs.Ordering.{int_eq}
 use Rattle.jdwp_wire.specs.Widths.{Widths}
+use Rattle.jdwp_wire.specs.Text.{text_refusal}
 use Rattle.jdwp_wire.specs.declared.error_code.ErrorCode.{ErrorCode}
 use Rattle.jdwp_wire.specs.ErrorCodes.{INVALID_SLOT, TYPE_MISMATCH, INVALID_OBJECT}
 use Rattle.jdwp_value.specs.declared.value.Value.{Value}
@@ -16,11 +18,12 @@ use Rattle.jdwp_script.specs.declared.step.SlotValue.{SlotValue}
 use Rattle.jdwp_script.specs.Parts.{GroupPart, ObjectPart, CallPart, StepPart, Call, Go, Return, Throwing, Prepare, Start, Again, ThreadPart, ScriptPart}
 use Rattle.jdwp_script_machine.specs.LookUps.{with_id, changed, is_some}
 use Rattle.jdwp_script_machine.specs.States.{SlotNow, FrameNow, ThreadNow, State, thread_at}
-use Rattle.jdwp_script_machine.specs.Sites.{thread_in, object_in, group_in, is_known}
+use Rattle.jdwp_script_machine.specs.Sites.{thread_in, object_in, object_at, group_in, is_known}
 use Rattle.jdwp_script_machine.specs.Steps.{slot_now, called, moved, frames_after, FRAME_LIMIT, occurrence, happening_by, happening_at, happening_of, next, next_step, place_after, after_step, alive, with_started, stepped_by, stepped_of, stepped, gone, ended}
 use Rattle.jdwp_script_machine.specs.SlotWrites.{has_slot, slot_value, found_suits, may_hold, slots_refusal, frame_refusal, frame_in, thread_refusal, write_refusal, slot_written, slots_written, frame_written, thread_written, written_by, written}
-use Rattle.jdwp_script_machine.specs.Sound.{Fits, ValueFits, StepIsSound, CallIsSound, ThreadIsSound, GroupIsSound, ObjectIsSound, ScriptIsSound, SlotNowIsSound, FrameIsSound, ThreadNowIsSound, thread_ids, IsSound}
+use Rattle.jdwp_script_machine.specs.Sound.{IsShort, Fits, ValueFits, IfThere, StepIsSound, CallIsSound, ThreadIsSound, GroupIsSound, ObjectIsSound, ScriptIsSound, SlotNowIsSound, FrameIsSound, ThreadNowIsSound, thread_ids, ObjectFits, IsSound}
 use Rattle.jdwp_script_machine.specs.StateLaws.{either, with_change, ids_kept}
+use Rattle.jdwp_script_machine.specs.FitLaws.{short_text}
 
 -- ---- what holds of all
 
@@ -178,6 +181,10 @@ stepped_step_sound s t place e step sound found is room =
       threads = rw (length-map (with_started step s.threads) _, started_length step s.threads) sound.threads;
       each_thread = threads_sound s t place e step sound found (sound_step s.script e step sound.script is) room;
       distinct = rw (ids_kept (after_step place step) (λ e. refl) (with_started step s.threads) t, started_ids step s.threads) sound.distinct;
+      within = sound.within;
+      few_made = sound.few_made;
+      each_made = sound.each_made;
+      counted = sound.counted;
     }
 
 stepped_by_sound : (s : State) (t place : ℕ) (e : ThreadNow) (p : Option StepPart) → IsSound s → thread_at s t ≡ Some e → next_step s.script e ≡ p → runs_out (happening_at s t e.frames p) ≡ false → IsSound (stepped_by s t place p)
@@ -205,6 +212,10 @@ ended_sound s t sound =
       threads = rw (length-map s.threads _) sound.threads;
       each_thread = all_changed (λ (e : ThreadNow). e.id) (ThreadNowIsSound s.script.sizes) gone (gone_sound s.script.sizes) s.threads t sound.each_thread;
       distinct = rw (ids_kept gone (λ e. refl) s.threads t) sound.distinct;
+      within = sound.within;
+      few_made = sound.few_made;
+      each_made = sound.each_made;
+      counted = sound.counted;
     }
 
 -- ---- written slots
@@ -212,39 +223,66 @@ ended_sound s t sound =
 pub zero_fits : (width : ℕ) → Fits width 0
 zero_fits width = let pos : 0 < 256 ^ width = omega (arith, one-le-pow width 256 (omega arith)) in rw (lt-ltb 0 (256 ^ width) pos) refl
 
-known_found : (script : ScriptPart) (id : ℕ) (o : Option ObjectPart) (t : Option ThreadPart) (g : Option GroupPart) → ScriptIsSound script → object_in script id ≡ o → thread_in script id ≡ t → group_in script id ≡ g
-    → (is_some o || (is_some t || is_some g)) ≡ true → Fits script.sizes.object id
-known_found script id (Some o) t g sound eo et eg h =
-    let good : ObjectIsSound script.sizes o = all_found (λ (o : ObjectPart). o.id) (ObjectIsSound script.sizes) script.objects id o sound.each_object eo in
-    rw (← found_id (λ (o : ObjectPart). o.id) script.objects id o eo) good.id
-known_found script id None (Some t) g sound eo et eg h =
-    let good : ThreadIsSound script.sizes t = all_found (λ (t : ThreadPart). t.id) (ThreadIsSound script.sizes) script.threads id t sound.each_thread et in
-    rw (← found_id (λ (t : ThreadPart). t.id) script.threads id t et) good.id
-known_found script id None None (Some g) sound eo et eg h =
-    let good : GroupIsSound script.sizes g = all_found (λ (g : GroupPart). g.id) (GroupIsSound script.sizes) script.groups id g sound.each_group eg in
-    rw (← found_id (λ (g : GroupPart). g.id) script.groups id g eg) good.id
-known_found script id None None None sound eo et eg h = absurd (false≢true h)
+-- ---- objects, of the script or made
 
-pub known_fits : (script : ScriptPart) (id : ℕ) → ScriptIsSound script → is_known script id ≡ true → Fits script.sizes.object id
-known_fits script id sound h = known_found script id (object_in script id) (thread_in script id) (group_in script id) sound refl refl refl h
+or_found : {A : Type 0} (P : A → Type 0) (first second : Option A) (x : A) → ((y : A) → first ≡ Some y → P y) → ((y : A) → second ≡ Some y → P y) → option_or first second ≡ Some x → P x
+or_found P (Some y) second x here there h = let same : y ≡ x = cc in rw (← same) (here y refl)
+or_found P None second x here there h = there x h
 
-null_or_known : (script : ScriptPart) (id : ℕ) → ScriptIsSound script → ((id == 0) || is_known script id) ≡ true → Fits script.sizes.object id
-null_or_known script id sound h = elim (either (id == 0)) [
-  | inl k ↦ rw (eqb-true id 0 k) (zero_fits script.sizes.object)
-  | inr k ↦ known_fits script id sound (rw k at h)
+text_fits : (o : Option (List ℕ)) → IfThere IsShort o → IfThere (λ t. text_refusal t ≡ None) o
+text_fits None h = tt
+text_fits (Some t) h = short_text t h
+
+object_fits : (w : Widths) (o : ObjectPart) → ObjectIsSound w o → ObjectFits w o
+object_fits w o h = record { id = h.id; fields = h.fields; text = text_fits o.text h.text; array = h.array }
+
+pub found_fits : (s : State) → IsSound s → (id : ℕ) (o : ObjectPart) → object_at s id ≡ Some o → ObjectFits s.script.sizes o
+found_fits s sound id o h =
+    let w = s.script.sizes in
+    or_found (ObjectFits w) (object_in s.script id) (with_id (λ (o : ObjectPart). o.id) id s.made) o
+    (λ x e. object_fits w x (all_found (λ (o : ObjectPart). o.id) (ObjectIsSound w) s.script.objects id x sound.script.each_object e))
+    (λ x e. all_found (λ (o : ObjectPart). o.id) (ObjectFits w) s.made id x sound.each_made e) h
+
+found_named : (s : State) (id : ℕ) (o : ObjectPart) → object_at s id ≡ Some o → o.id ≡ id
+found_named s id o h =
+    or_found (λ (o : ObjectPart). o.id ≡ id) (object_in s.script id) (with_id (λ (o : ObjectPart). o.id) id s.made) o
+    (λ x e. found_id (λ (o : ObjectPart). o.id) s.script.objects id x e) (λ x e. found_id (λ (o : ObjectPart). o.id) s.made id x e) h
+
+-- ---- values
+
+known_found : (s : State) (id : ℕ) (o : Option ObjectPart) (t : Option ThreadPart) (g : Option GroupPart) → IsSound s → object_at s id ≡ o → thread_in s.script id ≡ t → group_in s.script id ≡ g
+    → (is_some o || (is_some t || is_some g)) ≡ true → Fits s.script.sizes.object id
+known_found s id (Some o) t g sound eo et eg h =
+    let good : ObjectFits s.script.sizes o = found_fits s sound id o eo in
+    rw (← found_named s id o eo) good.id
+known_found s id None (Some t) g sound eo et eg h =
+    let good : ThreadIsSound s.script.sizes t = all_found (λ (t : ThreadPart). t.id) (ThreadIsSound s.script.sizes) s.script.threads id t sound.script.each_thread et in
+    rw (← found_id (λ (t : ThreadPart). t.id) s.script.threads id t et) good.id
+known_found s id None None (Some g) sound eo et eg h =
+    let good : GroupIsSound s.script.sizes g = all_found (λ (g : GroupPart). g.id) (GroupIsSound s.script.sizes) s.script.groups id g sound.script.each_group eg in
+    rw (← found_id (λ (g : GroupPart). g.id) s.script.groups id g eg) good.id
+known_found s id None None None sound eo et eg h = absurd (false≢true h)
+
+pub known_fits : (s : State) (id : ℕ) → IsSound s → is_known s id ≡ true → Fits s.script.sizes.object id
+known_fits s id sound h = known_found s id (object_at s id) (thread_in s.script id) (group_in s.script id) sound refl refl refl h
+
+null_or_known : (s : State) (id : ℕ) → IsSound s → ((id == 0) || is_known s id) ≡ true → Fits s.script.sizes.object id
+null_or_known s id sound h = elim (either (id == 0)) [
+  | inl k ↦ rw (eqb-true id 0 k) (zero_fits s.script.sizes.object)
+  | inr k ↦ known_fits s id sound (rw k at h)
 ]
 
-held_fits : (script : ScriptPart) (v : Value) → ScriptIsSound script → may_hold script v ≡ true → value_refusal script.sizes v ≡ None
-held_fits script (value.Object x) sound h = null_or_known script x.id.0 sound h
-held_fits script (value.Byte n) sound h = refl
-held_fits script (value.Char n) sound h = refl
-held_fits script (value.Double n) sound h = refl
-held_fits script (value.Float n) sound h = refl
-held_fits script (value.Int n) sound h = refl
-held_fits script (value.Long n) sound h = refl
-held_fits script (value.Short n) sound h = refl
-held_fits script value.Void sound h = refl
-held_fits script (value.Boolean b) sound h = refl
+held_fits : (s : State) (v : Value) → IsSound s → may_hold s v ≡ true → value_refusal s.script.sizes v ≡ None
+held_fits s (value.Object x) sound h = null_or_known s x.id.0 sound h
+held_fits s (value.Byte n) sound h = refl
+held_fits s (value.Char n) sound h = refl
+held_fits s (value.Double n) sound h = refl
+held_fits s (value.Float n) sound h = refl
+held_fits s (value.Int n) sound h = refl
+held_fits s (value.Long n) sound h = refl
+held_fits s (value.Short n) sound h = refl
+held_fits s value.Void sound h = refl
+held_fits s (value.Boolean b) sound h = refl
 
 and_left : (a b : Bool) → (a && b) ≡ true → a ≡ true
 and_left true b h = refl
@@ -254,11 +292,11 @@ and_right : (a b : Bool) → (a && b) ≡ true → b ≡ true
 and_right true b h = h
 and_right false b h = absurd (false≢true h)
 
-all_held : (script : ScriptPart) (values : List (ℤ × Value)) → ScriptIsSound script → list_all (λ (v : ℤ × Value). may_hold script v.1) values ≡ true
-    → AllByRecursion (λ (v : ℤ × Value). value_refusal script.sizes v.1 ≡ None) values
-all_held script [] sound h = tt
-all_held script (v ∷ values) sound h =
-    (held_fits script v.1 sound (and_left (may_hold script v.1) _ h), all_held script values sound (and_right (may_hold script v.1) _ h))
+all_held : (s : State) (values : List (ℤ × Value)) → IsSound s → list_all (λ (v : ℤ × Value). may_hold s v.1) values ≡ true
+    → AllByRecursion (λ (v : ℤ × Value). value_refusal s.script.sizes v.1 ≡ None) values
+all_held s [] sound h = tt
+all_held s (v ∷ values) sound h =
+    (held_fits s v.1 sound (and_left (may_hold s v.1) _ h), all_held s values sound (and_right (may_hold s v.1) _ h))
 
 slot_written_sound : (w : Widths) (v : ℤ × Value) (x : SlotNow) → value_refusal w v.1 ≡ None → SlotNowIsSound w x → SlotNowIsSound w (slot_written v x)
 slot_written_sound w v x fits h = elim (int_eq x.slot v.0) as (λ (b : Bool). SlotNowIsSound w (if b then record x { value = v.1 } else x)) [ true ↦ fits | false ↦ h ]
@@ -286,9 +324,9 @@ last_test true true false x y z h = absurd cc
 last_test true false c x y z h = absurd cc
 last_test false b c x y z h = absurd cc
 
-refusal_last : (script : ScriptPart) (slots : List SlotNow) (values : List (ℤ × Value)) → slots_refusal script slots values ≡ None → list_all (λ (v : ℤ × Value). may_hold script v.1) values ≡ true
-refusal_last script slots values h =
-    last_test (list_all (λ (v : ℤ × Value). has_slot slots v.0) values) (list_all (λ (v : ℤ × Value). found_suits (slot_value v.0 slots) (tag_of v.1)) values) (list_all (λ (v : ℤ × Value). may_hold script v.1) values)
+refusal_last : (s : State) (slots : List SlotNow) (values : List (ℤ × Value)) → slots_refusal s slots values ≡ None → list_all (λ (v : ℤ × Value). may_hold s v.1) values ≡ true
+refusal_last s slots values h =
+    last_test (list_all (λ (v : ℤ × Value). has_slot slots v.0) values) (list_all (λ (v : ℤ × Value). found_suits (slot_value v.0 slots) (tag_of v.1)) values) (list_all (λ (v : ℤ × Value). may_hold s v.1) values)
     INVALID_SLOT TYPE_MISMATCH INVALID_OBJECT h
 
 written_when : (s : State) (t f : ℕ) (values : List (ℤ × Value)) → IsSound s → AllByRecursion (λ (v : ℤ × Value). value_refusal s.script.sizes v.1 ≡ None) values → IsSound (written_by s t f values None)
@@ -298,18 +336,22 @@ written_when s t f values sound fits =
       threads = rw (length-map s.threads _) sound.threads;
       each_thread = all_changed (λ (e : ThreadNow). e.id) (ThreadNowIsSound s.script.sizes) (thread_written f values) (thread_written_sound s.script.sizes f values fits) s.threads t sound.each_thread;
       distinct = rw (ids_kept (thread_written f values) (λ e. refl) s.threads t) sound.distinct;
+      within = sound.within;
+      few_made = sound.few_made;
+      each_made = sound.each_made;
+      counted = sound.counted;
     }
 
-frame_refused : (script : ScriptPart) (values : List (ℤ × Value)) (o : Option FrameNow) → frame_refusal script values o ≡ None → list_all (λ (v : ℤ × Value). may_hold script v.1) values ≡ true
-frame_refused script values None h = absurd cc
-frame_refused script values (Some x) h = refusal_last script x.slots values h
+frame_refused : (s : State) (values : List (ℤ × Value)) (o : Option FrameNow) → frame_refusal s values o ≡ None → list_all (λ (v : ℤ × Value). may_hold s v.1) values ≡ true
+frame_refused s values None h = absurd cc
+frame_refused s values (Some x) h = refusal_last s x.slots values h
 
-thread_refused : (script : ScriptPart) (f : ℕ) (values : List (ℤ × Value)) (o : Option ThreadNow) → thread_refusal script f values o ≡ None → list_all (λ (v : ℤ × Value). may_hold script v.1) values ≡ true
-thread_refused script f values None h = absurd cc
-thread_refused script f values (Some e) h = frame_refused script values (frame_in f e.frames) h
+thread_refused : (s : State) (f : ℕ) (values : List (ℤ × Value)) (o : Option ThreadNow) → thread_refusal s f values o ≡ None → list_all (λ (v : ℤ × Value). may_hold s v.1) values ≡ true
+thread_refused s f values None h = absurd cc
+thread_refused s f values (Some e) h = frame_refused s values (frame_in f e.frames) h
 
 written_by_sound : (s : State) (t f : ℕ) (values : List (ℤ × Value)) (r : Option ErrorCode) → IsSound s → write_refusal s t f values ≡ r → IsSound (written_by s t f values r)
-written_by_sound s t f values None sound h = written_when s t f values sound (all_held s.script values sound.script (thread_refused s.script f values (thread_at s t) h))
+written_by_sound s t f values None sound h = written_when s t f values sound (all_held s values sound (thread_refused s f values (thread_at s t) h))
 written_by_sound s t f values (Some e) sound h = sound
 
 pub written_sound : (s : State) (t f : ℕ) (values : List (ℤ × Value)) → IsSound s → IsSound (written s t f values)

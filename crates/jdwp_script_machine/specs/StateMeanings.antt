@@ -1,6 +1,6 @@
 -- What the code keeps of a machine means a state.
 use Rattle.std.specs.Prelude.{map}
-use Rattle.jdwp_script.specs.Meanings.{script_part}
+use Rattle.jdwp_script.specs.Meanings.{object_part, script_part}
 use Rattle.jdwp_script_machine.specs.declared.state.SlotState.{SlotState}
 use Rattle.jdwp_script_machine.specs.declared.state.FrameState.{FrameState}
 use Rattle.jdwp_script_machine.specs.declared.state.Life as code
@@ -28,4 +28,4 @@ abbrev pub class_now : ClassState → ClassNow
 class_now c = record { id = c.id.0; is_prepared = c.is_prepared }
 
 abbrev pub state_now : MachineState → State
-state_now s = record { script = script_part s.script; threads = map thread_now s.threads.items; classes = map class_now s.classes.items; profile = s.profile }
+state_now s = record { script = script_part s.script; threads = map thread_now s.threads.items; classes = map class_now s.classes.items; made = map object_part s.made.items; profile = s.profile }

@@ -41,11 +41,12 @@ pub record ClassNow : Type 0 where
   pub is_prepared : Bool
 
 -- A machine: its script, which never changes and whose lists stand by rising id, its threads and classes as they are
--- now, in the script's order, and its profile, which never changes.
+-- now, in the script's order, the strings that were made, in turn, and its profile, which never changes.
 pub record State : Type 0 where
   pub script : ScriptPart
   pub threads : List ThreadNow
   pub classes : List ClassNow
+  pub made : List ObjectPart
   pub profile : Profile
 
 -- ---- threads
@@ -130,7 +131,7 @@ abbrev pub opening_class : ScriptPart → ClassPart → ClassNow
 opening_class script c = record { id = c.id; is_prepared = not (some_step (prepares_class c.id) script) }
 
 abbrev pub opening_of : ScriptPart → State
-opening_of script = record { script = script; threads = map (opening_thread script) script.threads; classes = map (opening_class script) script.classes; profile = Standard }
+opening_of script = record { script = script; threads = map (opening_thread script) script.threads; classes = map (opening_class script) script.classes; made = []; profile = Standard }
 
 -- the machine of a script in the standard profile, and in any
 abbrev pub opening : ScriptPart → State

@@ -1,7 +1,7 @@
 -- A worked machine: two threads, of which the first calls a method, moves in it and returns, and the second has no step; and two modules,
--- in one of which the class is.
-use Rattle.std.specs.Prelude.{◌≡◌, ℕ, ℤ, zero, suc, pos, negsuc, List, [], ◌∷◌, codes, Some}
-use Rattle.jdwp_wire.specs.ErrorCodes.{INVALID_CLASS, INVALID_MODULE, INVALID_METHODID, INVALID_LOCATION, INVALID_FRAMEID, TYPE_MISMATCH, INVALID_SLOT, INVALID_INDEX, INVALID_LENGTH, NOT_IMPLEMENTED}
+-- in one of which the class is. And machines with a class of strings, which make some.
+use Rattle.std.specs.Prelude.{◌≡◌, ℕ, ℤ, zero, suc, pos, negsuc, List, [], ◌∷◌, codes, Some, None}
+use Rattle.jdwp_wire.specs.ErrorCodes.{INVALID_CLASS, INVALID_MODULE, INVALID_METHODID, INVALID_LOCATION, INVALID_FRAMEID, TYPE_MISMATCH, INVALID_SLOT, INVALID_INDEX, INVALID_LENGTH, INVALID_OBJECT, INVALID_ARRAY, NOT_IMPLEMENTED}
 use Rattle.jdwp_value.specs.declared.location.Location.{Location}
 use Rattle.jdwp_value.specs.declared.location.Location.TheVariants.{Null, At}
 use Rattle.jdwp_value.specs.declared.location.TypeTag.TheVariants.{Class}
@@ -20,6 +20,8 @@ use Rattle.jdwp_script_machine.specs.States.{State, opening}
 use Rattle.jdwp_script_machine.specs.Steps.{next, stepped, ended}
 use Rattle.jdwp_script_machine.specs.SlotWrites.{write_answer, written}
 use Rattle.jdwp_script_machine.specs.Answers.{answer_at}
+use Rattle.jdwp_script_machine.specs.JdiAnswers.{unnamed_module}
+use Rattle.jdwp_script_machine.specs.Made.{OUT_OF_MEMORY, made_answer, made}
 
 -- ---- the machine
 
@@ -34,6 +36,7 @@ run_method =
       last = 9;
       lines = record { index = 0; line = pos 1 } ∷ record { index = 3; line = pos 2 } ∷ record { index = 4; line = pos 3 } ∷ [];
       slots = [];
+      returns = None;
     }
 
 abbrev pub main_class : ClassPart
@@ -172,3 +175,37 @@ pub record SlotsAreWorked : Type 0 where
   pub no_such_slot : slot_asked [] (pos 1) 73 ≡ Error INVALID_SLOT
   pub asked_otherwise : slot_asked [] (pos 0) 74 ≡ Error TYPE_MISMATCH
   pub asked_as_nothing : slot_asked [] (pos 0) 0 ≡ Error TYPE_MISMATCH
+
+-- ---- strings
+
+abbrev pub string_class : ClassPart
+string_class = record main_class { id = 11; signature = codes "Ljava/lang/String;"; methods = [] }
+
+-- a machine with a class of strings, and objects' ids of so many bytes, of which this one is the greatest
+abbrev pub with_strings : ℕ → ℕ → State
+with_strings width greatest =
+    opening (record {
+      name = codes "A";
+      sizes = record { field = 8; method = 8; object = width; reference = 8; frame = 8 };
+      groups = record { id = greatest; name = codes "main"; parent = 0; class = 0 } ∷ [];
+      classes = main_class ∷ string_class ∷ [];
+      objects = [];
+      threads = record { id = 1; name = codes "main"; group = greatest; steps = []; class = 0 } ∷ [];
+      modules = [];
+    })
+
+-- where the string `a` was made
+abbrev pub one_made : State
+one_made = made (with_strings 8 7) (codes "a")
+
+pub record StringsAreWorked : Type 0 where
+  pub first : made_answer (with_strings 8 7) (codes "a") ≡ Data (One (Object 9) ∷ [])
+  pub second : made_answer one_made (codes "b") ≡ Data (One (Object 10) ∷ [])
+  pub told : answer_at one_made 10 1 (One (Object 9) ∷ []) ≡ Data (One (Text (codes "a")) ∷ [])
+  pub of_its_class : answer_at one_made 9 1 (One (Object 9) ∷ []) ≡ Data (One (Byte 1) ∷ One (ReferenceType 11) ∷ [])
+  pub no_array : answer_at one_made 13 1 (One (Object 9) ∷ []) ≡ Error INVALID_ARRAY
+  pub not_yet_made : answer_at one_made 10 1 (One (Object 10) ∷ []) ≡ Error INVALID_OBJECT
+  pub unnamed_module_stays : unnamed_module one_made.script ≡ 8
+  pub no_such_class : made_answer (machine 0) (codes "a") ≡ Error NOT_IMPLEMENTED
+  pub last_that_fits : made_answer (with_strings 1 253) (codes "a") ≡ Data (One (Object 255) ∷ [])
+  pub too_wide : made_answer (with_strings 1 254) (codes "a") ≡ Error OUT_OF_MEMORY

@@ -11,7 +11,7 @@ use crate::array_answers::array_answer;
 use crate::class_answers::{class_type_answer, reference_type_answer};
 use crate::frame_answers::stack_frame_answer;
 use crate::group_answers::group_answer;
-use crate::jdi_answers::jdi_answer_at;
+use crate::invocation_answers::invoking_answer_at;
 use crate::location_answers::set_answer;
 use crate::machine_answers::virtual_machine_answer;
 use crate::method_answers::method_answer;
@@ -26,7 +26,7 @@ use jdwp_layout::numbers::{
 };
 use jdwp_layout::{Answer, Datum};
 use jdwp_machine::Profile;
-use jdwp_wire::{ErrorCode, NoMemory};
+use jdwp_wire::{ErrorCode, IdSizes, NoMemory};
 use std::alloc::Global;
 
 /// What a command of this set and number with these data is answered.
@@ -84,17 +84,19 @@ fn event_request_answer(
     }
 }
 
-/// The same in the machine's profile.
+/// The same in the machine's profile. `sizes` are the script's.
 ///
 /// # Errors
 /// `NoMemory` where an allocation was refused; a refusal takes no memory.
 pub(crate) fn answer_by(
     alloc: Global,
     state: &MachineState,
+    sizes: &IdSizes,
     set: u8,
     number: u8,
     content: &[Datum],
 ) -> Result<Answer, NoMemory>
+    requires { sizes.now ≡ (state_now state.now).script.sizes }
     ensures value { IfOk result (λ a. a ≡ answer_in state.now.profile (state_now state.now) set
         number (meanings content.now)) }
     // A refusal takes no memory.
@@ -104,6 +106,6 @@ pub(crate) fn answer_by(
 {
     match state.profile {
         Profile::Standard => answer_at(alloc, state, set, number, content),
-        Profile::Jdi => jdi_answer_at(alloc, state, set, number, content),
+        Profile::Jdi => invoking_answer_at(alloc, state, sizes, set, number, content),
     }
 }

@@ -38,22 +38,22 @@ pub(crate) fn array_answer(
         IsTrue (takes_memory (array_answer (state_now state.now) number (meanings content.now)))) }
 {
     match number {
-        ARRAY_LENGTH => array_length(alloc, &state.script, content),
-        GET_ELEMENTS => array_values(alloc, &state.script, content),
+        ARRAY_LENGTH => array_length(alloc, state, content),
+        GET_ELEMENTS => array_values(alloc, state, content),
         _ => Ok(Answer::Error(ErrorCode::NOT_IMPLEMENTED)),
     }
 }
 
 /// The length of an array.
-fn array_length(alloc: Global, script: &Script, content: &[Datum]) -> Result<Answer, NoMemory>
-    ensures value { IfOk result (λ a. a ≡ of_object (script_part script.now) array_length_answer
+fn array_length(alloc: Global, state: &MachineState, content: &[Datum]) -> Result<Answer, NoMemory>
+    ensures value { IfOk result (λ a. a ≡ of_object (state_now state.now) array_length_answer
         (meanings content.now)) }
     // A refusal takes no memory.
     ensures memory { IfErr result (λ _.
-        IsTrue (takes_memory (of_object (script_part script.now) array_length_answer
+        IsTrue (takes_memory (of_object (state_now state.now) array_length_answer
         (meanings content.now)))) }
 {
-    match object_asked(script, content) {
+    match object_asked(state, content) {
         Ok((object, [])) => length_of(alloc, object),
         Ok(_) => Ok(Answer::Error(ErrorCode::ILLEGAL_ARGUMENT)),
         Err(error) => Ok(Answer::Error(error)),
@@ -88,16 +88,16 @@ fn count_of(alloc: Global, elements: &Elements) -> Result<Answer, NoMemory>
 }
 
 /// Some elements of an array.
-fn array_values(alloc: Global, script: &Script, content: &[Datum]) -> Result<Answer, NoMemory>
-    ensures value { IfOk result (λ a. a ≡ of_object (script_part script.now) (elements_answer
-        (script_part script.now)) (meanings content.now)) }
+fn array_values(alloc: Global, state: &MachineState, content: &[Datum]) -> Result<Answer, NoMemory>
+    ensures value { IfOk result (λ a. a ≡ of_object (state_now state.now) (elements_answer
+        (state_now state.now).script) (meanings content.now)) }
     // A refusal takes no memory.
     ensures memory { IfErr result (λ _.
-        IsTrue (takes_memory (of_object (script_part script.now) (elements_answer
-        (script_part script.now)) (meanings content.now)))) }
+        IsTrue (takes_memory (of_object (state_now state.now) (elements_answer
+        (state_now state.now).script) (meanings content.now)))) }
 {
-    match object_asked(script, content) {
-        Ok((object, rest)) => values_of(alloc, script, object, rest),
+    match object_asked(state, content) {
+        Ok((object, rest)) => values_of(alloc, &state.script, object, rest),
         Err(error) => Ok(Answer::Error(error)),
     }
 }

@@ -74,14 +74,14 @@ pub(crate) fn method_asked<'a>(
 
 /// The object that the data name first.
 pub(crate) fn object_asked<'a>(
-    script: &'a Script,
+    state: &'a MachineState,
     content: &'a [Datum],
 ) -> Result<(&'a Object, &'a [Datum]), ErrorCode>
-    ensures { (answer : ObjectPart → Asks) → of_object (script_part script.now) answer
+    ensures { (answer : ObjectPart → Asks) → of_object (state_now state.now) answer
         (meanings content.now) ≡ by_asked object_part answer result }
 {
     match content {
-        [Datum::One(Scalar::ObjectId(id)), rest @ ..] => match object_of(script, *id) {
+        [Datum::One(Scalar::ObjectId(id)), rest @ ..] => match object_of(state, *id) {
             Some(object) => Ok((object, rest)),
             None => Err(ErrorCode::INVALID_OBJECT),
         },

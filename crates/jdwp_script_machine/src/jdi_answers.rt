@@ -51,7 +51,7 @@ pub(crate) fn jdi_answer_at(
 {
     let script = &state.script;
     match (set, number) {
-        (OBJECT_REFERENCE, OBJECT_TYPE) => any_type(alloc, script, content),
+        (OBJECT_REFERENCE, OBJECT_TYPE) => any_type(alloc, state, content),
         (VIRTUAL_MACHINE, CLASS_PATHS) => class_paths(alloc, content),
         (VIRTUAL_MACHINE, ALL_MODULES) => all_modules(alloc, script, content),
         (REFERENCE_TYPE, CLASS_MODULE) => module_of_class(alloc, script, content),
@@ -65,7 +65,7 @@ pub(crate) fn jdi_answer_at(
 }
 
 /// The first class with this signature.
-fn class_signed<'a>(classes: &'a [Class], signature: &str) -> Option<&'a Class>
+pub(crate) fn class_signed<'a>(classes: &'a [Class], signature: &str) -> Option<&'a Class>
     ensures { option_map class_part (found result) ≡ class_signed signature.now
         (map class_part classes.now) }
 {
@@ -116,18 +116,18 @@ fn type_asked<'a>(script: &'a Script, content: &'a [Datum]) -> Option<(&'a Class
 }
 
 /// The type of an object, a thread or a group.
-fn any_type(alloc: Global, script: &Script, content: &[Datum]) -> Result<Answer, NoMemory>
-    ensures value { IfOk result (λ a. a ≡ any_type_answer (script_part script.now)
+fn any_type(alloc: Global, state: &MachineState, content: &[Datum]) -> Result<Answer, NoMemory>
+    ensures value { IfOk result (λ a. a ≡ any_type_answer (state_now state.now)
         (meanings content.now)) }
     // A refusal takes no memory.
     ensures memory { IfErr result (λ _.
-        IsTrue (takes_memory (any_type_answer (script_part script.now)
+        IsTrue (takes_memory (any_type_answer (state_now state.now)
         (meanings content.now)))) }
 {
-    match type_asked(script, content) {
+    match type_asked(&state.script, content) {
         Some((class, [])) => class_told(alloc, class),
         Some(_) => Ok(Answer::Error(ErrorCode::ILLEGAL_ARGUMENT)),
-        None => object_type(alloc, script, content),
+        None => object_type(alloc, state, content),
     }
 }
 

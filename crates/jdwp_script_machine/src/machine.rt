@@ -13,6 +13,7 @@ ghost use Rattle.jdwp_script_machine.specs.ScriptLaws.{script_lawful};
 
 use crate::answers::answer_by;
 use crate::happening::next;
+use crate::making::make_string_of;
 use crate::opening::opening;
 use crate::slots::write_slots_of;
 use crate::state::{MachineState, ThreadState};
@@ -138,7 +139,14 @@ impl Machine for ScriptMachine {
     fn query(&self, query: &Query) -> Result<Answer, NoMemory> {
         let alloc = *self.live.allocator();
         let content = query.content.items();
-        answer_by(alloc, &self.state, query.set, query.number, content)
+        answer_by(
+            alloc,
+            &self.state,
+            &self.sizes,
+            query.set,
+            query.number,
+            content,
+        )
     }
 
     fn write_slots(
@@ -149,6 +157,11 @@ impl Machine for ScriptMachine {
     ) -> Result<Answer, NoMemory> {
         let alloc = *self.live.allocator();
         Ok(write_slots_of(alloc, &mut self.state, thread, frame, values))
+    }
+
+    fn make_string(&mut self, text: &str) -> Result<Answer, NoMemory> {
+        let alloc = *self.live.allocator();
+        make_string_of(alloc, &mut self.state, text)
     }
 
     ghost lawful = { script_lawful };

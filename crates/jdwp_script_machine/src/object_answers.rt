@@ -41,12 +41,11 @@ pub(crate) fn object_answer(
     ensures memory { IfErr result (λ _.
         IsTrue (takes_memory (object_answer (state_now state.now) number (meanings content.now)))) }
 {
-    let script = &state.script;
     match number {
-        OBJECT_TYPE => object_type(alloc, script, content),
-        GET_FIELDS => held_values(alloc, script, content),
-        DISABLE_COLLECTION | ENABLE_COLLECTION => Ok(collection(alloc, script, content)),
-        IS_COLLECTED => collected(alloc, script, content),
+        OBJECT_TYPE => object_type(alloc, state, content),
+        GET_FIELDS => held_values(alloc, state, content),
+        DISABLE_COLLECTION | ENABLE_COLLECTION => Ok(collection(alloc, state, content)),
+        IS_COLLECTED => collected(alloc, state, content),
         _ => Ok(Answer::Error(ErrorCode::NOT_IMPLEMENTED)),
     }
 }
@@ -54,18 +53,18 @@ pub(crate) fn object_answer(
 /// The type of an object.
 pub(crate) fn object_type(
     alloc: Global,
-    script: &Script,
+    state: &MachineState,
     content: &[Datum],
 ) -> Result<Answer, NoMemory>
-    ensures value { IfOk result (λ a. a ≡ of_object (script_part script.now) (object_type_answer
-        (script_part script.now)) (meanings content.now)) }
+    ensures value { IfOk result (λ a. a ≡ of_object (state_now state.now) (object_type_answer
+        (state_now state.now).script) (meanings content.now)) }
     // A refusal takes no memory.
     ensures memory { IfErr result (λ _.
-        IsTrue (takes_memory (of_object (script_part script.now) (object_type_answer
-        (script_part script.now)) (meanings content.now)))) }
+        IsTrue (takes_memory (of_object (state_now state.now) (object_type_answer
+        (state_now state.now).script) (meanings content.now)))) }
 {
-    match object_asked(script, content) {
-        Ok((object, [])) => type_of(alloc, script, object),
+    match object_asked(state, content) {
+        Ok((object, [])) => type_of(alloc, &state.script, object),
         Ok(_) => Ok(Answer::Error(ErrorCode::ILLEGAL_ARGUMENT)),
         Err(error) => Ok(Answer::Error(error)),
     }
@@ -99,15 +98,15 @@ pub(crate) fn class_told(alloc: Global, class: &Class) -> Result<Answer, NoMemor
 }
 
 /// The values of fields of an object.
-fn held_values(alloc: Global, script: &Script, content: &[Datum]) -> Result<Answer, NoMemory>
-    ensures value { IfOk result (λ a. a ≡ of_object (script_part script.now) held_answer
+fn held_values(alloc: Global, state: &MachineState, content: &[Datum]) -> Result<Answer, NoMemory>
+    ensures value { IfOk result (λ a. a ≡ of_object (state_now state.now) held_answer
         (meanings content.now)) }
     // A refusal takes no memory.
     ensures memory { IfErr result (λ _.
-        IsTrue (takes_memory (of_object (script_part script.now) held_answer
+        IsTrue (takes_memory (of_object (state_now state.now) held_answer
         (meanings content.now)))) }
 {
-    match object_asked(script, content) {
+    match object_asked(state, content) {
         Ok((object, rest)) => held_by(alloc, object, rest),
         Err(error) => Ok(Answer::Error(error)),
     }
@@ -141,10 +140,10 @@ impl Fielded for Object {
 }
 
 /// Success where the object is there, and nothing more is asked.
-fn collection(alloc: Global, script: &Script, content: &[Datum]) -> Answer
-    ensures { result ≡ of_object (script_part script.now) collection_answer (meanings content.now) }
+fn collection(alloc: Global, state: &MachineState, content: &[Datum]) -> Answer
+    ensures { result ≡ of_object (state_now state.now) collection_answer (meanings content.now) }
 {
-    match object_asked(script, content) {
+    match object_asked(state, content) {
         Ok((_, [])) => done(alloc),
         Ok(_) => Answer::Error(ErrorCode::ILLEGAL_ARGUMENT),
         Err(error) => Answer::Error(error),
@@ -152,15 +151,15 @@ fn collection(alloc: Global, script: &Script, content: &[Datum]) -> Answer
 }
 
 /// Whether an object was collected: no object ever is.
-fn collected(alloc: Global, script: &Script, content: &[Datum]) -> Result<Answer, NoMemory>
-    ensures value { IfOk result (λ a. a ≡ of_object (script_part script.now) collected_answer
+fn collected(alloc: Global, state: &MachineState, content: &[Datum]) -> Result<Answer, NoMemory>
+    ensures value { IfOk result (λ a. a ≡ of_object (state_now state.now) collected_answer
         (meanings content.now)) }
     // A refusal takes no memory.
     ensures memory { IfErr result (λ _.
-        IsTrue (takes_memory (of_object (script_part script.now) collected_answer
+        IsTrue (takes_memory (of_object (state_now state.now) collected_answer
         (meanings content.now)))) }
 {
-    match object_asked(script, content) {
+    match object_asked(state, content) {
         Ok((_, [])) => of_scalar(alloc, Scalar::Boolean(false)),
         Ok(_) => Ok(Answer::Error(ErrorCode::ILLEGAL_ARGUMENT)),
         Err(error) => Ok(Answer::Error(error)),
@@ -184,21 +183,21 @@ pub(crate) fn string_answer(
         IsTrue (takes_memory (string_answer (state_now state.now) number (meanings content.now)))) }
 {
     match number {
-        STRING_VALUE => string_value(alloc, &state.script, content),
+        STRING_VALUE => string_value(alloc, state, content),
         _ => Ok(Answer::Error(ErrorCode::NOT_IMPLEMENTED)),
     }
 }
 
 /// The text of a string.
-fn string_value(alloc: Global, script: &Script, content: &[Datum]) -> Result<Answer, NoMemory>
-    ensures value { IfOk result (λ a. a ≡ of_object (script_part script.now) string_value_answer
+fn string_value(alloc: Global, state: &MachineState, content: &[Datum]) -> Result<Answer, NoMemory>
+    ensures value { IfOk result (λ a. a ≡ of_object (state_now state.now) string_value_answer
         (meanings content.now)) }
     // A refusal takes no memory.
     ensures memory { IfErr result (λ _.
-        IsTrue (takes_memory (of_object (script_part script.now) string_value_answer
+        IsTrue (takes_memory (of_object (state_now state.now) string_value_answer
         (meanings content.now)))) }
 {
-    match object_asked(script, content) {
+    match object_asked(state, content) {
         Ok((object, [])) => text_of(alloc, object),
         Ok(_) => Ok(Answer::Error(ErrorCode::ILLEGAL_ARGUMENT)),
         Err(error) => Ok(Answer::Error(error)),

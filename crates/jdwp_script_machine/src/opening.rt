@@ -52,6 +52,7 @@ fn state_of(alloc: Global, profile: Profile, script: Script) -> Result<MachineSt
         script,
         threads,
         classes,
+        made: Vec::new(alloc),
         profile,
     })
 }

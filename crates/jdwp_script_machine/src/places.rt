@@ -6,7 +6,7 @@ ghost use Rattle.jdwp_script_machine.specs.LookUps.{with_id};
 ghost use Rattle.jdwp_script_machine.specs.Found.{found};
 ghost use Rattle.jdwp_script_machine.specs.StateMeanings.{frame_now, thread_now, state_now};
 ghost use Rattle.jdwp_script_machine.specs.SlotWrites.{frame_in};
-ghost use Rattle.jdwp_script_machine.specs.Sites.{is_known, class_in, method_in, object_in, group_in, thread_in, module_in};
+ghost use Rattle.jdwp_script_machine.specs.Sites.{is_known, class_in, method_in, object_at, group_in, thread_in, module_in};
 ghost use Rattle.jdwp_script_machine.specs.States.{thread_at};
 ghost use Rattle.jdwp_script_machine.specs.ThreadAnswers.{frames_at};
 
@@ -37,11 +37,14 @@ pub(crate) fn field_of(class: &Class, id: FieldId) -> Option<&Field>
     with_id(&class.fields, id.0)
 }
 
-/// The object of this id.
-pub(crate) fn object_of(script: &Script, id: ObjectId) -> Option<&Object>
-    ensures { option_map object_part (found result) ≡ object_in (script_part script.now) id.0 }
+/// The object of this id, of the script or made.
+pub(crate) fn object_of(state: &MachineState, id: ObjectId) -> Option<&Object>
+    ensures { option_map object_part (found result) ≡ object_at (state_now state.now) id.0 }
 {
-    with_id(&script.objects, id.0)
+    match with_id(&state.script.objects, id.0) {
+        Some(object) => Some(object),
+        None => with_id(&state.made, id.0),
+    }
 }
 
 /// The thread group of this id.
@@ -90,10 +93,10 @@ pub(crate) fn frame_of(frames: &[FrameState], id: FrameId) -> Option<&FrameState
 }
 
 /// Whether an id is that of an object, a thread or a group.
-pub(crate) fn is_known(script: &Script, id: ObjectId) -> bool
-    ensures { result ≡ is_known (script_part script.now) id.0 }
+pub(crate) fn is_known(state: &MachineState, id: ObjectId) -> bool
+    ensures { result ≡ is_known (state_now state.now) id.0 }
 {
-    object_of(script, id).is_some()
-        || thread_of(script, id).is_some()
-        || group_of(script, id).is_some()
+    object_of(state, id).is_some()
+        || thread_of(&state.script, id).is_some()
+        || group_of(&state.script, id).is_some()
 }

@@ -2,7 +2,6 @@
 ghost use Rattle.std.specs.Prelude.{◌≡◌, ℤ, map};
 ghost use Rattle.std.specs.List.{list_all};
 ghost use Rattle.jdwp_value.specs.declared.value.Value.{Value};
-ghost use Rattle.jdwp_script.specs.Meanings.{script_part};
 ghost use Rattle.jdwp_script_machine.specs.StateMeanings.{slot_now, frame_now, thread_now, state_now};
 ghost use Rattle.jdwp_script_machine.specs.SlotWrites.{slot_value, has_slot, suits, found_suits, may_hold, slots_refusal, write_refusal, slot_written, slots_written, write_answer, written};
 ghost use Rattle.jdwp_script_machine.specs.Changes.{value_suits, frame_changed, thread_changed};
@@ -11,7 +10,6 @@ use crate::places::{frame_of, is_known, thread_state_of};
 use crate::replies::done;
 use crate::state::{FrameState, MachineState, SlotState, ThreadState};
 use jdwp_layout::Answer;
-use jdwp_script::Script;
 use jdwp_value::{FrameId, ObjectId, Tag, Value};
 use jdwp_wire::ErrorCode;
 use std::alloc::Global;
@@ -55,11 +53,11 @@ pub(crate) fn suits(slot: Tag, asked: Tag) -> bool
 }
 
 /// Whether a slot may hold the value: an object has to be null or known.
-fn may_hold(script: &Script, value: Value) -> bool
-    ensures { result ≡ may_hold (script_part script.now) value }
+fn may_hold(state: &MachineState, value: Value) -> bool
+    ensures { result ≡ may_hold (state_now state.now) value }
 {
     match value {
-        Value::Object(object) => object.id.0 == 0 || is_known(script, object.id),
+        Value::Object(object) => object.id.0 == 0 || is_known(state, object.id),
         _ => true,
     }
 }
@@ -107,12 +105,12 @@ fn found_suits(held: Option<Value>, asked: Tag) -> bool
 }
 
 /// Whether a slot may hold each value.
-fn all_may_stand(script: &Script, values: &[(i32, Value)]) -> bool
+fn all_may_stand(state: &MachineState, values: &[(i32, Value)]) -> bool
     ensures { result ≡ list_all (λ (v : ℤ × Value).
-        may_hold (script_part script.now) v.1) values.now }
+        may_hold (state_now state.now) v.1) values.now }
 {
     for (_, value) in values {
-        if !may_hold(script, *value) {
+        if !may_hold(state, *value) {
             return false;
         }
     }
@@ -121,8 +119,12 @@ fn all_may_stand(script: &Script, values: &[(i32, Value)]) -> bool
 
 /// Why values can't be written into these slots. First every slot is tested, then every tag, then every object.
 #[tactic(auto, unfolding(crate::specs::Changes::value_suits))]
-fn slots_refusal(script: &Script, slots: &[SlotState], values: &[(i32, Value)]) -> Option<ErrorCode>
-    ensures { result ≡ slots_refusal (script_part script.now) (map slot_now slots.now) values.now }
+fn slots_refusal(
+    state: &MachineState,
+    slots: &[SlotState],
+    values: &[(i32, Value)],
+) -> Option<ErrorCode>
+    ensures { result ≡ slots_refusal (state_now state.now) (map slot_now slots.now) values.now }
 {
     if !all_have_slots(slots, values) {
         return Some(ErrorCode::INVALID_SLOT);
@@ -130,7 +132,7 @@ fn slots_refusal(script: &Script, slots: &[SlotState], values: &[(i32, Value)]) 
     if !all_suit(slots, values) {
         return Some(ErrorCode::TYPE_MISMATCH);
     }
-    if !all_may_stand(script, values) {
+    if !all_may_stand(state, values) {
         return Some(ErrorCode::INVALID_OBJECT);
     }
     None
@@ -147,7 +149,7 @@ fn write_refusal(
 {
     match thread_state_of(state, thread) {
         Some(thread) => match frame_of(&thread.frames, frame) {
-            Some(frame) => slots_refusal(&state.script, &frame.slots, values),
+            Some(frame) => slots_refusal(state, &frame.slots, values),
             None => Some(ErrorCode::INVALID_FRAMEID),
         },
         None => Some(ErrorCode::INVALID_OBJECT),

@@ -4,7 +4,7 @@ ghost use Rattle.jdwp_script_machine.specs.States.{is_living, has_begun};
 ghost use Rattle.jdwp_script_machine.specs.StateMeanings.{life_now};
 
 use jdwp_machine::Profile;
-use jdwp_script::Script;
+use jdwp_script::{Object, Script};
 use jdwp_value::{FrameId, MethodId, ObjectId, ReferenceTypeId, Value};
 
 /// What a slot of a frame holds.
@@ -75,11 +75,13 @@ pub struct ClassState {
     pub is_prepared: bool,
 }
 
-/// The script, whose lists stand by rising id, its threads and classes as they are now, in the script's order, and the profile.
+/// The script, whose lists stand by rising id, its threads and classes as they are now, in the script's order, the strings that were made,
+/// in turn, and the profile.
 #[derive(Drop)]
 pub struct MachineState {
     pub script: Script,
     pub threads: Vec<ThreadState>,
     pub classes: Vec<ClassState>,
+    pub made: Vec<Object>,
     pub profile: Profile,
 }

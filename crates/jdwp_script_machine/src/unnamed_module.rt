@@ -32,7 +32,7 @@ fn last_id<T: Numbered>(parts: &[T]) -> u64
 }
 
 /// The greatest id of a group, a thread, an object or a module, whose lists stand by rising id.
-fn greatest_id(script: &Script) -> u64
+pub(crate) fn greatest_id(script: &Script) -> u64
     ensures { result ≡ greatest_id (script_part script.now) }
 {
     let first = last_id(&script.groups).max(last_id(&script.threads));

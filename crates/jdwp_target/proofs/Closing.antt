@@ -18,6 +18,8 @@ use Rattle.jdwp_action.specs.Actions
 use Rattle.jdwp_action.specs.Actions.{Action, Carried, Command, Content, Raw, action_by, action_of, clear_action, other_action, set_action, slots_of, thread_action, thread_of, is_dispose}
 use Rattle.jdwp_action.specs.CommandReads.{content_read}
 use Rattle.jdwp_machine.specs.declared.profile.Profile.{Profile}
+use Rattle.jdwp_debuggee.specs.Strings.{makes_string}
+use Rattle.jdwp_debuggee.specs.Answers.{query_of}
 use Rattle.jdwp_debuggee.specs.Answering.{is_read, read_as, unread_as, with_bytes}
 use Rattle.jdwp_machine.specs.Profiles.{adds_raw}
 use Rattle.jdwp_layout.specs.CommandTable.{row_at}
@@ -171,6 +173,10 @@ set-why : {S : Type 0} (a : Action) (m : Meaning S) (now : Moment S) (byte polic
 set-why a m now byte policy modifiers (Some e) = goes-on a _ refl refl
 set-why a m now byte policy modifiers None = goes-on a _ refl refl
 
+asks-why : {S : Type 0} (a : Action) (m : Meaning S) (settings : Settings) (now : Moment S) (c : Command) (b : Bool) → Why a (effects.asks_by m settings now c b)
+asks-why a m settings now c true = goes-on a _ refl refl
+asks-why a m settings now c false = goes-on a _ refl refl
+
 does-why : {S : Type 0} (m : Meaning S) (settings : Settings) (now : Moment S) (c : Command) (a : Action) → Why a (does m settings now c a)
 does-why m settings now c Actions.Suspend = suspend-why _ now _
 does-why m settings now c Actions.Resume = goes-on _ _ refl refl
@@ -190,7 +196,7 @@ does-why m settings now c (Actions.AskFrames t) = goes-on _ _ refl refl
 does-why m settings now c (Actions.AskThread t) = goes-on _ _ refl refl
 does-why m settings now c Actions.AllThreads = goes-on _ _ refl refl
 does-why m settings now c Actions.IdSizes = goes-on _ _ refl refl
-does-why m settings now c Actions.Ask = goes-on _ _ refl refl
+does-why m settings now c Actions.Ask = asks-why _ m settings now c (makes_string (query_of c))
 
 effect-why : {S : Type 0} (m : Meaning S) (settings : Settings) (now : Moment S) (c : Command) (b : Bool) → Why (action_of c) (effect_by m settings now c b)
 effect-why m settings now c false = goes-on _ _ refl refl

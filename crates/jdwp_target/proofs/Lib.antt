@@ -1,3 +1,4 @@
+pub mod IdBytes
 pub mod EnqueueLemmas
 pub mod DeferredCommands
 pub mod Deferrals

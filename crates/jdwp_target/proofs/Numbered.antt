@@ -15,9 +15,11 @@ use Rattle.jdwp_event.specs.Occurrences.{HappeningMeaning, started, runs_out}
 use Rattle.jdwp_event.specs.Requests.{Request}
 use Rattle.jdwp_machine.specs.Meanings.{Meaning}
 use Rattle.jdwp_action.specs.Actions
+use Rattle.jdwp_debuggee.specs.Strings.{makes_string}
+use Rattle.jdwp_debuggee.specs.Answers.{query_of}
 use Rattle.jdwp_debuggee.specs.Answering.{is_answered, read_as}
 use Rattle.jdwp_action.specs.Actions.{Action, Command, action_of}
-use Rattle.jdwp_debuggee.specs.Effects.{Effect, does, effect_by, suspend_by, set_by, suspend_thread_by, suspend_thread_at, resume_thread_by, slots_by, slots_at}
+use Rattle.jdwp_debuggee.specs.Effects.{Effect, asks_by, does, effect_by, suspend_by, set_by, suspend_thread_by, suspend_thread_at, resume_thread_by, slots_by, slots_at}
 use Rattle.jdwp_debuggee.specs.Refusals.{set_refusal}
 use Rattle.jdwp_debuggee.specs.Settings.{Settings}
 use Rattle.jdwp_debuggee.specs.State.{Thread, State, Moment, at_limit, count_of, is_marked, new_state, next_packet_id, without_thread}
@@ -117,7 +119,8 @@ keeps m settings now c (Actions.AskFrames t) = goes-on now _ refl refl refl
 keeps m settings now c (Actions.AskThread t) = goes-on now _ refl refl refl
 keeps m settings now c Actions.AllThreads = goes-on now _ refl refl refl
 keeps m settings now c Actions.IdSizes = goes-on now _ refl refl refl
-keeps m settings now c Actions.Ask = goes-on now _ refl refl refl
+keeps m settings now c Actions.Ask =
+    elim (makes_string (query_of c)) as (λ b. Keeps now (asks_by m settings now c b)) [ true ↦ goes-on now _ refl refl refl | false ↦ goes-on now _ refl refl refl ]
 
 keeps-by : {S : Type 0} (m : Meaning S) (settings : Settings) (now : Moment S) (c : Command) (b : Bool) → Keeps now (effect_by m settings now c b)
 keeps-by m settings now c true = keeps m settings now c (action_of c)

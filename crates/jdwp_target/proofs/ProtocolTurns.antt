@@ -22,13 +22,15 @@ use Rattle.jdwp_event.specs.RequestLists.{without, without_breakpoints}
 use Rattle.jdwp_event.specs.Requests.{new_request}
 use Rattle.jdwp_machine.specs.Meanings.{Meaning}
 use Rattle.jdwp_action.specs.Actions
+use Rattle.jdwp_debuggee.specs.Strings.{makes_string}
+use Rattle.jdwp_debuggee.specs.Answers.{query_of}
 use Rattle.jdwp_debuggee.specs.Answering.{is_answered, read_as}
 use Rattle.jdwp_action.specs.Actions.{Action, Command, action_of}
 use Rattle.jdwp_action.specs.AnswerPackets.{EncodesAnswer, error_of}
-use Rattle.jdwp_debuggee.specs.Effects.{Effect, asked, does, effect_by, first_origin, resume_thread_by, set_by, slots_at, slots_by, step_thread, suspend_by, suspend_thread_at, suspend_thread_by}
+use Rattle.jdwp_debuggee.specs.Effects.{Effect, asked, asks_by, does, effect_by, first_origin, resume_thread_by, set_by, slots_at, slots_by, step_thread, suspend_by, suspend_thread_at, suspend_thread_by}
 use Rattle.jdwp_debuggee.specs.Facts.{is_data}
 use Rattle.jdwp_debuggee.specs.Settings.{Settings}
-use Rattle.jdwp_debuggee.specs.State.{Moment, State, Thread, changed, cleared, count_in, count_of, lowered, only, raised, with_counts}
+use Rattle.jdwp_debuggee.specs.State.{Moment, State, Thread, changed, cleared, count_in, count_of, lowered, only, raised, restopped, with_counts}
 use Rattle.jdwp_debuggee.specs.ThreadLaws.{count-changed}
 use Rattle.jdwp_target.specs.declared.target.Turn.{Turn}
 use Rattle.jdwp_target.specs.declared.target.Turn.TheVariants as turn
@@ -227,7 +229,7 @@ suspended-thread : {S : Type 0} (settings : Settings) (now : Standing S) (w : Wi
 suspended-thread settings now w id t None answers = absurd cc
 suspended-thread settings now w id t (Some count) answers = suspended-at now w id t _ answers
 
-resumed-thread : {S : Type 0} (now : Standing S) (w : Widths) (id t : ℕ) (o : Option ℕ) → is_data (resume_thread_by now.moment t o).answer ≡ true → behind now w id (resume_thread_by now.moment t o) ≡ with_counts (only t lowered) now.moment.state
+resumed-thread : {S : Type 0} (now : Standing S) (w : Widths) (id t : ℕ) (o : Option ℕ) → is_data (resume_thread_by now.moment t o).answer ≡ true → behind now w id (resume_thread_by now.moment t o) ≡ restopped (with_counts (only t lowered) now.moment.state)
 resumed-thread now w id t None answers = absurd cc
 resumed-thread now w id t (Some count) answers = refl
 
@@ -337,6 +339,10 @@ set-refuses : {S : Type 0} (m : Meaning S) (now : Moment S) (byte policy : ℕ) 
 set-refuses m now byte policy modifiers (Some e) none = (refl, refl)
 set-refuses m now byte policy modifiers None none = absurd cc
 
+asks-refuses : {S : Type 0} (m : Meaning S) (settings : Settings) (now : Moment S) (c : Command) (b : Bool) → Refuses now (asks_by m settings now c b)
+asks-refuses m settings now c true none = (refl, refl)
+asks-refuses m settings now c false none = (refl, refl)
+
 does-refuses : {S : Type 0} (m : Meaning S) (settings : Settings) (now : Moment S) (c : Command) (a : Action) → Refuses now (does m settings now c a)
 does-refuses m settings now c Actions.Suspend none = suspend-refuses now _ none
 does-refuses m settings now c Actions.Resume none = absurd cc
@@ -356,7 +362,7 @@ does-refuses m settings now c (Actions.AskFrames t) none = (refl, refl)
 does-refuses m settings now c (Actions.AskThread t) none = (refl, refl)
 does-refuses m settings now c Actions.AllThreads none = (refl, refl)
 does-refuses m settings now c Actions.IdSizes none = (refl, refl)
-does-refuses m settings now c Actions.Ask none = (refl, refl)
+does-refuses m settings now c Actions.Ask none = asks-refuses m settings now c (makes_string (query_of c)) none
 
 effect-refuses : {S : Type 0} (m : Meaning S) (settings : Settings) (now : Moment S) (c : Command) (b : Bool) → Refuses now (effect_by m settings now c b)
 effect-refuses m settings now c false none = (refl, refl)

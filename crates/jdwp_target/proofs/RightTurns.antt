@@ -32,13 +32,15 @@ use Rattle.jdwp_action.specs.Actions
 use Rattle.jdwp_action.specs.Actions.{Action, Command, Raw, action_of, is_dispose, is_exit}
 use Rattle.jdwp_action.specs.CommandReads.{content_read, with_content}
 use Rattle.jdwp_machine.specs.declared.profile.Profile.{Profile}
+use Rattle.jdwp_debuggee.specs.Strings.{makes_string}
+use Rattle.jdwp_debuggee.specs.Answers.{query_of}
 use Rattle.jdwp_debuggee.specs.Answering.{is_answered, is_read, read_as, unread_as, with_bytes}
 use Rattle.jdwp_debuggee.proofs.OwnRefusals.{or-left, or-right, unread-raw}
 use Rattle.jdwp_machine.specs.Profiles.{adds_raw}
 use Rattle.jdwp_action.specs.RowLayouts.{row_request}
 use Rattle.jdwp_debuggee.specs.Askings.{Asking, action_meaning, asked_meaning, asking, asking_of, asks, is_short}
 use Rattle.jdwp_debuggee.specs.Debuggees.{Debuggee, at_moment, visiting}
-use Rattle.jdwp_debuggee.specs.Effects.{Effect, carried, carried_by, does, effect_by, raises_counts, suspend_by, set_by, suspend_thread_by, suspend_thread_at, resume_thread_by, slots_by, slots_at}
+use Rattle.jdwp_debuggee.specs.Effects.{Effect, asks_by, carried, carried_by, does, effect_by, raises_counts, suspend_by, set_by, suspend_thread_by, suspend_thread_at, resume_thread_by, slots_by, slots_at}
 use Rattle.jdwp_debuggee.specs.Refusals.{set_refusal}
 use Rattle.jdwp_action.specs.AnswerPackets.{answer_bytes, error_of}
 use Rattle.jdwp_debuggee.specs.Sending.{Did, IsSent, is_short_asked, sent_bytes}
@@ -139,7 +141,11 @@ ending m settings now c (Actions.AskFrames t) = goes-on now _ _ refl refl refl r
 ending m settings now c (Actions.AskThread t) = goes-on now _ _ refl refl refl refl refl
 ending m settings now c Actions.AllThreads = goes-on now _ _ refl refl refl refl refl
 ending m settings now c Actions.IdSizes = goes-on now _ _ refl refl refl refl refl
-ending m settings now c Actions.Ask = goes-on now _ _ refl refl refl refl refl
+ending m settings now c Actions.Ask =
+    elim (makes_string (query_of c)) as (λ b. Ending now Actions.Ask (asks_by m settings now c b)) [
+      | true ↦ goes-on now _ _ refl refl refl refl refl
+      | false ↦ goes-on now _ _ refl refl refl refl refl
+    ]
 
 -- ---- what a command reads as
 

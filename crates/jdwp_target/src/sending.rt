@@ -1,5 +1,6 @@
 //! Replies and composites as they are enqueued to leave.
 ghost use Rattle.std.specs.Prelude.{◌≡◌, ◌≤◌, ◌+◌, None, length, pos};
+ghost use Rattle.byteorder.specs.Endian.{big_bytes};
 ghost use Rattle.jdwp_end.specs.Ends.{most_outgoing, with_enqueued};
 ghost use Rattle.jdwp_wire.specs.Basic.{int_canonical};
 ghost use Rattle.jdwp_wire.specs.Frames.{header_bytes};
@@ -18,6 +19,7 @@ use jdwp_debuggee::{Reply, Sent};
 use jdwp_end::End;
 use jdwp_event::{Composite, EventKind, Policy};
 use jdwp_layout::numbers::{COMPOSITE, EVENT};
+use jdwp_value::ObjectId;
 use jdwp_wire::{ErrorCode, Header, IdSizes, PacketKind, Wire};
 
 /// Enqueues the header of a reply with so many bytes of data.
@@ -81,6 +83,18 @@ fn enqueue_short(id: u32, reply: Reply, sizes: &IdSizes, end: &mut End)
     }
 }
 
+/// Enqueues an object's id as the reply to the command of this id.
+fn enqueue_object(id: u32, object: ObjectId, sizes: &IdSizes, end: &mut End)
+    requires { length end.old.outgoing + 19 ≤ most_outgoing end.old.limits }
+    ensures { end.new ≡ with_enqueued (message_bytes (packet_with id
+        (PacketKind.Reply ErrorCode.NONE) (big_bytes sizes.now.object object.0))) end.old }
+{
+    let width = sizes.object();
+    enqueue_header(id, ErrorCode::NONE, u32::from(width), end);
+    let bytes = object.0.to_be_bytes();
+    end.enqueue(&bytes[8 - usize::from(width)..]);
+}
+
 /// Enqueues what is sent for an answer, as the reply to the command of this id. It takes no memory.
 pub fn enqueue_reply(id: u32, sent: &Sent, sizes: &IdSizes, end: &mut End)
     requires short { length end.old.outgoing + 31 ≤ most_outgoing end.old.limits }
@@ -96,6 +110,7 @@ pub fn enqueue_reply(id: u32, sent: &Sent, sizes: &IdSizes, end: &mut End)
             enqueue_header(id, ErrorCode::NONE, bytes.len() as u32, end);
             end.enqueue(bytes);
         }
+        Sent::Object(object) => enqueue_object(id, *object, sizes, end),
     }
 }
 

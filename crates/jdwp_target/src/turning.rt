@@ -459,6 +459,6 @@ pub(crate) fn error_of(sent: &Sent) -> ErrorCode
 {
     match sent {
         Sent::Short(Reply::Refused(error)) => *error,
-        Sent::Short(_) | Sent::Written(_) => ErrorCode::NONE,
+        Sent::Short(_) | Sent::Written(_) | Sent::Object(_) => ErrorCode::NONE,
     }
 }

@@ -1,7 +1,7 @@
 -- A machine for tests of a link: a thread that steps on and on at one place, and one that has run out. Its ids are of five widths.
 use Rattle.std.specs.Prelude.{◌≡◌, ℕ, ◌==◌, Bool, true, ◌||◌, not, List, [], codes, None, if◌then◌else◌}
 use Rattle.std.specs.List.{filter}
-use Rattle.jdwp_wire.specs.ErrorCodes.{INVALID_LOCATION}
+use Rattle.jdwp_wire.specs.ErrorCodes.{INVALID_LOCATION, NOT_IMPLEMENTED}
 use Rattle.jdwp_wire.specs.Widths.{Widths}
 use Rattle.jdwp_value.specs.declared.location.Location.TheVariants.{At}
 use Rattle.jdwp_value.specs.declared.location.TypeTag.TheVariants.{Class}
@@ -47,4 +47,6 @@ spinning = record {
   query = λ live q. Error INVALID_LOCATION;
   write_answer = λ live t f values. Error INVALID_LOCATION;
   written = λ live t f values. live;
+  made_answer = λ live text. Error NOT_IMPLEMENTED;
+  made = λ live text. live;
 }

@@ -109,5 +109,9 @@ impl Machine for Spinning {
         Ok(Answer::Error(ErrorCode::INVALID_LOCATION))
     }
 
+    fn make_string(&mut self, _text: &str) -> Result<Answer, NoMemory> {
+        Ok(Answer::Error(ErrorCode::NOT_IMPLEMENTED))
+    }
+
     ghost lawful = { spinning_lawful };
 }

@@ -4,7 +4,7 @@ use Rattle.milunovesk.specs.Event.Occurrences.{OccurrenceMeaning, PreparedMeanin
 use Rattle.milunovesk.specs.Layout.Answer.TheVariants.{Error}
 use Rattle.milunovesk.specs.Machine.Meanings.{Meaning}
 use Rattle.milunovesk.specs.Value.TypeTag.TheVariants.{Class}
-use Rattle.milunovesk.specs.Wire.ErrorCodes.{INVALID_LOCATION}
+use Rattle.milunovesk.specs.Wire.ErrorCodes.{INVALID_LOCATION, NOT_IMPLEMENTED}
 use Rattle.milunovesk.specs.Wire.Widths.{Widths}
 
 -- whether the thread lives, and whether its step is still to come
@@ -47,4 +47,6 @@ one_step = record {
   query = λ s q. Error INVALID_LOCATION;
   write_answer = λ s t f values. Error INVALID_LOCATION;
   written = λ s t f values. s;
+  made_answer = λ s text. Error NOT_IMPLEMENTED;
+  made = λ s text. s;
 }

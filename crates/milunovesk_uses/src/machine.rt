@@ -112,6 +112,10 @@ impl Machine for OneStep {
         Ok(Answer::Error(ErrorCode::INVALID_LOCATION))
     }
 
+    fn make_string(&mut self, _text: &str) -> Result<Answer, NoMemory> {
+        Ok(Answer::Error(ErrorCode::NOT_IMPLEMENTED))
+    }
+
     ghost lawful = { one_step_lawful };
 }
 

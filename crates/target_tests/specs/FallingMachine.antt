@@ -2,7 +2,7 @@
 -- class, where one is to be prepared; but for that they have run out.
 use Rattle.std.specs.Prelude.{◌≡◌, ℕ, pos, ◌==◌, Bool, true, false, ◌||◌, not, List, []}
 use Rattle.std.specs.List.{filter}
-use Rattle.jdwp_wire.specs.ErrorCodes.{INVALID_LOCATION}
+use Rattle.jdwp_wire.specs.ErrorCodes.{INVALID_LOCATION, NOT_IMPLEMENTED}
 use Rattle.jdwp_wire.specs.Widths.{Widths}
 use Rattle.jdwp_layout.specs.declared.answer.Answer.TheVariants.{Error}
 use Rattle.jdwp_value.specs.declared.location.TypeTag.TheVariants.{Class}
@@ -53,4 +53,6 @@ falling = record {
   query = λ m q. Error INVALID_LOCATION;
   write_answer = λ m t f values. Error INVALID_LOCATION;
   written = λ m t f values. m;
+  made_answer = λ m text. Error NOT_IMPLEMENTED;
+  made = λ m text. m;
 }

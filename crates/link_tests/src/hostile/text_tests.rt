@@ -1,7 +1,8 @@
 //! Captures and plans of very many digits and lines: the fault and its line, or what is told.
 use crate::asserts::{expect_same, expect_same_for};
 use jdwp_attach::{LineFault, PlanFault, PlanLine, read_plan};
-use jdwp_show::{CaptureFault, Verdict, check, show};
+use jdwp_judge::{check, show};
+use jdwp_show::{CaptureFault, Verdict};
 use jdwp_wire::FrameFault;
 use std::alloc::Global;
 use std::process::Abort;

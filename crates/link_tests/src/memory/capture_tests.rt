@@ -1,10 +1,11 @@
 //! Captures and scripts whose reading is refused.
 use crate::asserts::{expect_at_least, expect_same};
 use crate::memory::supply::{MOST_TIMES, Stop, Supply, push_line};
+use jdwp_judge::{check, show};
 use jdwp_machine::Machine;
 use jdwp_script::ScriptFault;
 use jdwp_script_machine::ScriptMachine;
-use jdwp_show::{Shown, Verdict, check, show};
+use jdwp_show::{Shown, Verdict};
 use jdwp_wire::{IdSizes, NoMemory};
 use std::alloc::Global;
 use test_parts::MACHINE_A;

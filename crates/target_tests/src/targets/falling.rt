@@ -112,5 +112,9 @@ impl Machine for Falling {
         Ok(Answer::Error(ErrorCode::INVALID_LOCATION))
     }
 
+    fn make_string(&mut self, _text: &str) -> Result<Answer, NoMemory> {
+        Ok(Answer::Error(ErrorCode::NOT_IMPLEMENTED))
+    }
+
     ghost lawful = { falling_lawful };
 }

@@ -32,4 +32,9 @@ returns-in-Err-clause-reads c =
 pub returns-in_default-request_of-clause-value : goal.returns-in_default-request_of-clause-value
 returns-in_default-request_of-clause-value c =
     let none : answered_request c.args.profile c.args.set c.args.number ≡ None = search rules in
-    c.unread.ensures c.args.sizes.now c.args.bytes.now none
+    c.unread.ensures.value c.args.sizes.now none
+
+pub returns-in_default-request_of-clause-reads : goal.returns-in_default-request_of-clause-reads
+returns-in_default-request_of-clause-reads c =
+    let none : answered_request c.args.profile c.args.set c.args.number ≡ None = search rules in
+    c.unread.ensures.reads c.args.sizes.now none

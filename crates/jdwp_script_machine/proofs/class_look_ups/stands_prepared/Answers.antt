@@ -1,6 +1,6 @@
 use Rattle.std.proofs.lemmas.Grind.{common_steps}
 use Rattle.std.proofs.lemmas.List.Folds.{list_any_at}
-use Rattle.std.proofs.Common.{◌==◌, arith, false, length, map, if◌then◌else◌}
+use Rattle.std.proofs.Common.{◌==◌, arith, false, map, if◌then◌else◌}
 use Rattle.jdwp_script_machine.specs.States.{ClassNow}
 use Rattle.jdwp_script_machine.specs.StateMeanings.{class_now}
 use Rattle.jdwp_script_machine.proofs.class_look_ups.stands_prepared.Goals as goal

@@ -9,3 +9,6 @@ returns-clause-answers c = record { frames = refl; frames_moved = refl; no_frame
 
 pub returns-clause-slots : goal.returns-clause-slots
 returns-clause-slots c = record { writes = refl; reads = refl; last_counts = refl; all_or_none = refl; slots_before_tags = refl; other_tag = refl; never_void = refl; no_such_frame = refl; no_such_slot = refl; asked_otherwise = refl; asked_as_nothing = refl }
+
+pub returns-clause-strings : goal.returns-clause-strings
+returns-clause-strings c = record { first = refl; second = refl; told = refl; of_its_class = refl; no_array = refl; not_yet_made = refl; unnamed_module_stays = refl; no_such_class = refl; last_that_fits = refl; too_wide = refl }

@@ -1,8 +1,13 @@
 use Rattle.std.proofs.Common.{rules, ◌≡◌, ap, map}
 use Rattle.jdwp_event.specs.ModifierMeanings.{modifier_meaning}
 use Rattle.jdwp_event.specs.RequestParts.{modifiers_meaning}
-use Rattle.jdwp_debuggee.proofs.KeptRequests.{carries-set, kept-set-by}
+use Rattle.jdwp_debuggee.proofs.KeptRequests.{carries-set, kept-set-by, set-room}
 use Rattle.jdwp_debuggee.proofs.debuggee.Debuggee.add_request.Goals as goal
+
+pub unwrap-asked_id-requires : goal.unwrap-asked_id-requires
+unwrap-asked_id-requires g c =
+    let room = set-room g.M.Machine.meaning c.args.self.now.settings c.args.self.now.moment c.args.kind c.args.policy (modifiers_meaning c.args.modifiers) c.requires in
+    c.new.ensures.some.1 (rw (← c.self.view_is) at room)
 
 pub invariant_of-self-2 : goal.invariant_of-self-2
 invariant_of-self-2 g c =

@@ -22,5 +22,6 @@ invariant_of-self-2 g c =
     c.add_started.ensures.list ∙ (ap (λ l. with_new (number_of c.thread_started-started.result) l) c.make_room.ensures.same ∙ ap (λ o. with_new o c.self.inside.threads.list) c.thread_started-started.ensures) in
     let machine : c.step.new.self ≡ g.M.Machine.meaning.stepped c.self.inside.machine c.args.thread.0 = search rules in
     let sends = rw (← c.self.view_is) at c.requires.sends in
-    rw (c.suspend_for.ensures.list, threads, c.count_gathered.ensures sends, c.id_after-self-inside.ensures, c.thread.ensures, machine)
+    let stopped = rw (c.make_stop_room.ensures.same, c.thread-2.ensures) at c.stop_for.ensures in
+    rw (stopped, c.suspend_for.ensures.list, threads, c.count_gathered.ensures sends, c.id_after-self-inside.ensures, c.thread.ensures, machine)
     (kept-report g.M.Machine.meaning g.met.M.Machine.lawful _ c.args.thread.0 c.args.happening.now c.args.sends.now c.self.invariant (rw (← c.self.view_is) at c.requires.may) (rw (← c.self.view_is) at c.requires.unmarked) (rw (← c.self.view_is) at c.requires.next) c.requires.runs_on sends)

@@ -1,7 +1,12 @@
-use Rattle.jdwp_debuggee.proofs.Writable.{answer-writable}
+use Rattle.std.proofs.Common.{◌≡◌, Some, ap, rules}
+use Rattle.jdwp_layout.specs.Shapes.{shape}
+use Rattle.jdwp_machine.specs.Invocations.{invocation_request}
+use Rattle.jdwp_debuggee.specs.Debuggees.{Debuggee}
+use Rattle.jdwp_debuggee.proofs.InvocationsRefused.{sent-refused}
 use Rattle.jdwp_debuggee.proofs.debuggee.Debuggee.ask.Goals as goal
 
-pub sent-requires : goal.sent-requires
-sent-requires g c =
-    rw (c.sizes-sizes.ensures, c.in_ok-answer.ensures.value)
-    (answer-writable g.M.Machine.meaning c.self.inside.machine c.args.query.now.set c.args.query.now.number _ (g.met.M.Machine.lawful.answers c.self.inside.machine c.args.query.now c.self.invariant.sound.state))
+pub returns-in-Some-clause-refused : goal.returns-in-Some-clause-refused
+returns-in-Some-clause-refused g c =
+    let of : invocation_request c.args.query.now.set c.args.query.now.number ≡ Some (shape c.in-Some.layout) = search rules in
+    let machine : c.self.inside.machine ≡ c.args.self.now.moment.machine = ap (λ (d : Debuggee g.row.M.Denot). d.moment.machine) c.self.view_is in
+    sent-refused g.M.Machine.meaning g.met.M.Machine.lawful c.args.self.now.settings c.args.self.now.moment c.args.query.now (shape c.in-Some.layout) c.ask_invocation.result (rw machine at c.self.invariant.sound.state) of c.ask_invocation.ensures.value

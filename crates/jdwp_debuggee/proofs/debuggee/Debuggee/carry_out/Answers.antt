@@ -1,11 +1,13 @@
-use Rattle.std.proofs.Common.{ap, refl, rules, None}
+use Rattle.std.proofs.Common.{◌≡◌, true, false, ap, refl, rules, None}
 use Rattle.jdwp_action.specs.Actions as action
 use Rattle.jdwp_debuggee.specs.Askings.{Asking}
 use Rattle.jdwp_debuggee.specs.Debuggees.{CarriesOut}
 use Rattle.jdwp_debuggee.specs.Replies.{reply_meaning}
 use Rattle.jdwp_debuggee.proofs.Encoded.{threads-told}
+use Rattle.jdwp_debuggee.specs.Strings.{makes_string}
+use Rattle.jdwp_debuggee.proofs.MadeStrings.{string-did, string-told}
 use Rattle.jdwp_debuggee.proofs.Wanting.{both-wanted, short-wants}
-use Rattle.jdwp_debuggee.proofs.Writable.{frames-did, short-did, short-fails, short-sent, short-stays, thread-did}
+use Rattle.jdwp_debuggee.proofs.Writable.{frames-did, machine-did, machine-told, short-did, short-fails, short-sent, short-stays, thread-did}
 use Rattle.jdwp_debuggee.proofs.debuggee.Debuggee.carry_out.Goals as goal
 
 pub returns-in-Exit-clause-ok : goal.returns-in-Exit-clause-ok
@@ -111,3 +113,15 @@ returns-in-AskFrames-clause-wants g c = rw c.in-AskFrames.is (both-wanted _ _ c.
 
 pub returns-in-AskThread-clause-wants : goal.returns-in-AskThread-clause-wants
 returns-in-AskThread-clause-wants g c = rw c.in-AskThread.is (both-wanted _ _ c.ask_thread.result c.ask_thread.ensures.lives c.ask_thread.ensures.memory)
+
+pub returns-in-Ask-clause-ok : goal.returns-in-Ask-clause-ok
+returns-in-Ask-clause-ok g c =
+    let on : makes_string c.in-Ask.query ≡ true = search rules in
+    let made = rw c.text_in.ensures at c.make_string.ensures in
+    rw c.in-Ask.is (string-did g.M.Machine.meaning _ _ c.in-Ask.query c.make_string.result on made.after made.value made.fits)
+
+pub returns-in-Ask-clause-encoded : goal.returns-in-Ask-clause-encoded
+returns-in-Ask-clause-encoded g c =
+    let on : makes_string c.in-Ask.query ≡ true = search rules in
+    let made = rw c.text_in.ensures at c.make_string.ensures in
+    rw c.in-Ask.is (string-told g.M.Machine.meaning c.args.self.now c.in-Ask.query c.make_string.result on made.encoded)

@@ -12,4 +12,4 @@ invariant_of-result g c =
       requests = rw (c.requests.ensures.value, c.limits-2.ensures) at c.requests.ensures.within;
       composite = rw (c.packet.ensures.value, c.limits.ensures) at c.packet.ensures.composite;
     } in
-    rw (live, c.new-2.ensures) (kept-new g.M.Machine.meaning g.met.M.Machine.lawful c.args.settings c.args.machine c.live.ensures.state (rw c.count_limit.ensures.value at c.count_limit.ensures.within) roomy)
+    rw (live, c.new-2.ensures, c.new-3.ensures.items) (kept-new g.M.Machine.meaning g.met.M.Machine.lawful c.args.settings c.args.machine c.live.ensures.state (rw c.count_limit.ensures.value at c.count_limit.ensures.within) roomy)

@@ -1,5 +1,6 @@
 use Rattle.std.proofs.Common.{◌≡◌, ◌∙◌, Some, None, rules}
 use Rattle.jdwp_layout.specs.Shapes.{shape}
+use Rattle.jdwp_machine.specs.Meanings.{numbers}
 use Rattle.jdwp_debuggee.specs.ReadParts.{answered_request}
 use Rattle.jdwp_debuggee.specs.State.{State}
 use Rattle.jdwp_debuggee.proofs.OwnRefusals.{refuses-none, refuses-thread, refuses-unread}
@@ -28,6 +29,7 @@ returns-clause-value g c =
       alive = d.alive;
       next_request = d.next_request;
       next_packet = d.next_packet;
+      stopped = numbers d.stopped.items;
     } in
     rw (← c.self.view_is) (λ command begins read long.
     let told : answered_request c.args.self.now.settings.profile c.args.set c.args.number ≡ Some (shape c.in_ok-layout.layout) = search rules in
