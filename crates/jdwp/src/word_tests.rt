@@ -175,8 +175,14 @@ static HELP: [(&str, &str); 26] = [
         "pair --help",
         "Runs a plan|Usage: jdwp pair |<MACHINE>|<PLAN>|a connection at 127.0.0.1|--memory|--order <ORDER>|[default: one]|one, apart|--start <WHICH>|--defer|--turns <N>|--junit <FILE>",
     ),
-    ("show --help", "Shows a capture|Usage: |<FILE>"),
-    ("check --help", "Judges a capture|Usage: |<FILE>"),
+    (
+        "show --help",
+        "Shows a capture|Usage: |<FILE>|--profile <PROFILE>|[default: standard]|standard, jdi",
+    ),
+    (
+        "check --help",
+        "Judges a capture|Usage: |<FILE>|--profile <PROFILE>|[default: standard]|standard, jdi",
+    ),
     (
         "capture --help",
         "Makes the capture|Usage: jdwp capture |<FILE>|--target-port <N>|--stream <N>|[default: 1]",

@@ -17,6 +17,7 @@ ghost use Rattle.jdwp_program.specs.Statuses.{status_of_fault};
 ghost use Rattle.jdwp_program.specs.Outputs.{LeavesCaptureTold};
 ghost use Rattle.jdwp_files.specs.Refusals.{IsFileNotText, RefusesAttachPlan, RefusesScript};
 
+use crate::input::{check_input, show_input};
 use crate::written::{attach_written_files, without_cases, written_text};
 use jdwp_attach::Attached;
 use jdwp_end::{Ended, Pipe, Streams};
@@ -27,6 +28,7 @@ use jdwp_program::{
     session_of, show_capture, text_of,
 };
 use jdwp_recording::{Capture, RecordingFault};
+use jdwp_show::Table;
 use std::alloc::Global;
 use std::fs::{Metadata, OpenFile};
 use std::io::{BufWriter, Read, Write};
@@ -37,10 +39,10 @@ use std::{fs, io};
 /// The files of a session that were opened, one to read from and one to write to.
 pub(crate) type FileStreams<F> = Streams<Watched<F>, Watched<BufWriter<F>>>;
 
-/// Shows the capture of a file, or that of a session in a recording of the network.
+/// Shows the capture of a file, or that of a session in a recording of the network. A capture on standard input, `-`, is shown while it is read.
 ///
 /// # Errors
-/// `File` where it can't be read or is not UTF-8; `Recording` where it gives no capture, and, behind what was told, where it gives not all of
+/// `File` where it can't be read or is not UTF-8, which on standard input is a line that does not read; `Recording` where it gives no capture, and, behind what was told, where it gives not all of
 /// one; `Output` where the output can't be written; `NoMemory`.
 pub fn show_file<'a, R: Files + AllocGlobal, O: Write, E: Write>(
     rt: &R,
@@ -50,37 +52,45 @@ pub fn show_file<'a, R: Files + AllocGlobal, O: Write, E: Write>(
 ) -> Result<Told, Fault<'a>>
     ensures { LeavesCaptureTold result (O.contents out.old) (O.contents out.new) }
 {
-    let bytes = read_capture(rt, words.file)?;
+    if words.file == "-" {
+        return show_input(rt, words, out, err);
+    }
+    let bytes = read(rt, words.file)?;
     if is_recording(&bytes) {
         let found = session_in(rt.alloc(), words, &bytes, err)?;
-        return show_recorded(rt.alloc(), words.file, &found, out);
+        return show_recorded(rt.alloc(), words, &found, out);
     }
     let capture = text(words.file, &bytes)?;
-    show_text(rt.alloc(), capture, out)
+    show_text(rt.alloc(), words.table, capture, out)
 }
 
 /// Shows a capture.
-fn show_text<'a, O: Write>(alloc: Global, capture: &str, out: &mut O) -> Result<Told, Fault<'a>>
+fn show_text<'a, O: Write>(
+    alloc: Global,
+    table: Table,
+    capture: &str,
+    out: &mut O,
+) -> Result<Told, Fault<'a>>
     ensures { LeavesCaptureTold result (O.contents out.old) (O.contents out.new) }
 {
-    match show_capture(alloc, capture, out) {
+    match show_capture(alloc, table, capture, out) {
         Ok(told) => Ok(told),
         Err(TellFault::Output(error)) => Err(Fault::Output(error)),
         Err(TellFault::NoMemory) => Err(Fault::NoMemory),
     }
 }
 
-/// Shows the capture that a recording in a file of this name gave.
-fn show_recorded<'a, O: Write>(
+/// Shows the capture that a recording in the file of the words gave.
+pub(crate) fn show_recorded<'a, O: Write>(
     alloc: Global,
-    file: &'a str,
+    words: &CaptureFile<'a>,
     found: &Capture,
     out: &mut O,
 ) -> Result<Told, Fault<'a>>
     ensures { LeavesCaptureTold result (O.contents out.old) (O.contents out.new) }
 {
-    match show_capture(alloc, found.text.as_str(), out) {
-        Ok(told) => faulty_where(file, told, found.fault),
+    match show_capture(alloc, words.table, found.text.as_str(), out) {
+        Ok(told) => faulty_where(words.file, told, found.fault),
         Err(TellFault::Output(error)) => Err(Fault::Output(error)),
         Err(TellFault::NoMemory) => Err(Fault::NoMemory),
     }
@@ -98,37 +108,45 @@ pub fn check_file<'a, R: Files + AllocGlobal, O: Write, E: Write>(
 ) -> Result<Told, Fault<'a>>
     ensures { LeavesCaptureTold result (O.contents out.old) (O.contents out.new) }
 {
-    let bytes = read_capture(rt, words.file)?;
+    if words.file == "-" {
+        return check_input(rt, words, out, err);
+    }
+    let bytes = read(rt, words.file)?;
     if is_recording(&bytes) {
         let found = session_in(rt.alloc(), words, &bytes, err)?;
-        return check_recorded(rt.alloc(), words.file, &found, out);
+        return check_recorded(rt.alloc(), words, &found, out);
     }
     let capture = text(words.file, &bytes)?;
-    check_text(rt.alloc(), capture, out)
+    check_text(rt.alloc(), words.table, capture, out)
 }
 
 /// Judges a capture.
-fn check_text<'a, O: Write>(alloc: Global, capture: &str, out: &mut O) -> Result<Told, Fault<'a>>
+fn check_text<'a, O: Write>(
+    alloc: Global,
+    table: Table,
+    capture: &str,
+    out: &mut O,
+) -> Result<Told, Fault<'a>>
     ensures { LeavesCaptureTold result (O.contents out.old) (O.contents out.new) }
 {
-    match check_capture(alloc, capture, out) {
+    match check_capture(alloc, table, capture, out) {
         Ok(told) => Ok(told),
         Err(TellFault::Output(error)) => Err(Fault::Output(error)),
         Err(TellFault::NoMemory) => Err(Fault::NoMemory),
     }
 }
 
-/// Judges the capture that a recording in a file of this name gave.
-fn check_recorded<'a, O: Write>(
+/// Judges the capture that a recording in the file of the words gave.
+pub(crate) fn check_recorded<'a, O: Write>(
     alloc: Global,
-    file: &'a str,
+    words: &CaptureFile<'a>,
     found: &Capture,
     out: &mut O,
 ) -> Result<Told, Fault<'a>>
     ensures { LeavesCaptureTold result (O.contents out.old) (O.contents out.new) }
 {
-    match check_capture(alloc, found.text.as_str(), out) {
-        Ok(told) => faulty_where(file, told, found.fault),
+    match check_capture(alloc, words.table, found.text.as_str(), out) {
+        Ok(told) => faulty_where(words.file, told, found.fault),
         Err(TellFault::Output(error)) => Err(Fault::Output(error)),
         Err(TellFault::NoMemory) => Err(Fault::NoMemory),
     }

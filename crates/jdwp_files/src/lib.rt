@@ -3,6 +3,7 @@
 
 mod drawing;
 mod files;
+mod input;
 mod memory;
 mod paired;
 mod recording;

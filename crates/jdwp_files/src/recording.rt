@@ -6,6 +6,7 @@ use jdwp_end::Ended;
 use jdwp_port::{Notice, PortCause, PortListener, bind};
 use jdwp_program::{Fault, Lines, Outcome, Record, Told, show_capture, tell_listening};
 use jdwp_record::{RecordNotice, Recorder, read_again};
+use jdwp_show::Table;
 use std::io;
 use std::io::{ErrorKind, Write};
 use std::net::Net;
@@ -94,7 +95,7 @@ fn show_recorded<'a, R: Files + AllocGlobal, O: Write>(
         return Ok(words.once.then_some(Outcome::Session(Ended::Done)));
     }
     let capture = read_again(rt, words.to, number)?;
-    match show_capture(rt.alloc(), capture.as_str(), out)? {
+    match show_capture(rt.alloc(), Table::Standard, capture.as_str(), out)? {
         Told::Unread => Ok(Some(Outcome::Capture(Told::Unread))),
         told => Ok(words.once.then_some(Outcome::Capture(told))),
     }

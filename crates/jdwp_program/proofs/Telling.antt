@@ -1,8 +1,10 @@
 -- What is left of what was told.
 use Rattle.std.proofs.Common.{◌≡◌, ℕ, List, [], append-nil, Option, Some, None, Result, Ok, Err, inl, inr, refl, subst, sym}
 use Rattle.jdwp_show.specs.declared.capture_fault.CaptureFault.{CaptureFault}
-use Rattle.jdwp_show.specs.Sessions.{first_fault}
-use Rattle.jdwp_program.specs.Captures.{Tells, shown_text, verdict_text}
+use Rattle.jdwp_show.specs.declared.table.Table.{Table}
+use Rattle.jdwp_show.specs.declared.table.Table.TheVariants.{Standard}
+use Rattle.jdwp_show.specs.Sessions.{first_fault, first_fault_under}
+use Rattle.jdwp_program.specs.Captures.{Tells, shown_text_under, verdict_text}
 use Rattle.jdwp_program.specs.Drawings.{Draws, IsDrawing}
 use Rattle.jdwp_program.specs.Listening.{TellsListening, listening_line}
 use Rattle.jdwp_program.specs.Outputs.{IsTextOf, LeavesListened, LeavesListening, LeavesText, LeavesTold}
@@ -13,29 +15,29 @@ use Rattle.jdwp_program.specs.declared.captures.TellFault.{TellFault}
 use Rattle.jdwp_program.specs.declared.captures.TellFault.TheVariants.{Output, NoMemory}
 
 -- of a capture
-leaves_capture : (capture text : List ℕ) (fault : Option (ℕ × CaptureFault)) (old new : Option (List ℕ)) (result : Result Told TellFault)
-    → first_fault capture ≡ fault → IsTextOf capture text → Tells fault text old new result → LeavesTold result old new
-leaves_capture capture text None old new (Ok Faultless) is of tells = inr (inl (capture, text, of, inl (rw is refl, tells.1)))
-leaves_capture capture text (Some fault) old new (Ok Faultless) is of tells = absurd cc
-leaves_capture capture text None old new (Ok Faulty) is of tells = absurd cc
-leaves_capture capture text (Some fault) old new (Ok Faulty) is of tells = inr (inl (capture, text, of, inl (rw is refl, tells.1)))
-leaves_capture capture text fault old new (Ok Unread) is of tells = inr (inl (capture, text, of, inr (refl, tells)))
-leaves_capture capture text fault old new (Err (Output error)) is of tells = inr (inl (capture, text, of, inr (refl, tells.1)))
-leaves_capture capture text fault old new (Err NoMemory) is of tells = inl tells
+leaves_capture : (table : Table) (capture text : List ℕ) (fault : Option (ℕ × CaptureFault)) (old new : Option (List ℕ)) (result : Result Told TellFault)
+    → first_fault_under table capture ≡ fault → IsTextOf table capture text → Tells fault text old new result → LeavesTold result old new
+leaves_capture table capture text None old new (Ok Faultless) is of tells = inr (inl (table, capture, text, of, inl (rw is refl, tells.1)))
+leaves_capture table capture text (Some fault) old new (Ok Faultless) is of tells = absurd cc
+leaves_capture table capture text None old new (Ok Faulty) is of tells = absurd cc
+leaves_capture table capture text (Some fault) old new (Ok Faulty) is of tells = inr (inl (table, capture, text, of, inl (rw is refl, tells.1)))
+leaves_capture table capture text fault old new (Ok Unread) is of tells = inr (inl (table, capture, text, of, inr (refl, tells)))
+leaves_capture table capture text fault old new (Err (Output error)) is of tells = inr (inl (table, capture, text, of, inr (refl, tells.1)))
+leaves_capture table capture text fault old new (Err NoMemory) is of tells = inl tells
 
 -- of a capture in words
-pub leaves_shown : (capture : List ℕ) (old new : Option (List ℕ)) (result : Result Told TellFault)
-    → Tells (first_fault capture) (shown_text capture) old new result → LeavesTold result old new
-leaves_shown capture old new result tells = leaves_capture capture (shown_text capture) (first_fault capture) old new result refl (inl refl) tells
+pub leaves_shown : (table : Table) (capture : List ℕ) (old new : Option (List ℕ)) (result : Result Told TellFault)
+    → Tells (first_fault_under table capture) (shown_text_under table capture) old new result → LeavesTold result old new
+leaves_shown table capture old new result tells = leaves_capture table capture (shown_text_under table capture) (first_fault_under table capture) old new result refl (inl refl) tells
 
 -- of the verdict on a capture
-pub leaves_judged : (capture : List ℕ) (old new : Option (List ℕ)) (result : Result Told TellFault)
-    → Tells (first_fault capture) (verdict_text (first_fault capture)) old new result → LeavesTold result old new
-leaves_judged capture old new result tells = leaves_capture capture (verdict_text (first_fault capture)) (first_fault capture) old new result refl (inr (inl refl)) tells
+pub leaves_judged : (table : Table) (capture : List ℕ) (old new : Option (List ℕ)) (result : Result Told TellFault)
+    → Tells (first_fault_under table capture) (verdict_text (first_fault_under table capture)) old new result → LeavesTold result old new
+leaves_judged table capture old new result tells = leaves_capture table capture (verdict_text (first_fault_under table capture)) (first_fault_under table capture) old new result refl (inr (inl refl)) tells
 
 -- of a drawing of a capture
 pub leaves_drawn : (capture : List ℕ) (from count : ℕ) (text : List ℕ) (old new : Option (List ℕ)) (result : Result Told TellFault) → IsDrawing capture from count text → Tells (first_fault capture) text old new result → LeavesTold result old new
-leaves_drawn capture from count text old new result is tells = leaves_capture capture text (first_fault capture) old new result refl (inr (inr (from, count, is))) tells
+leaves_drawn capture from count text old new result is tells = leaves_capture Standard capture text (first_fault capture) old new result refl (inr (inr (refl, from, count, is))) tells
 
 pub draws : (capture : List ℕ) (from count : ℕ) (text : List ℕ) (old new : Option (List ℕ)) (result : Result Told TellFault) → IsDrawing capture from count text → Tells (first_fault capture) text old new result → Draws capture from count old new result
 draws capture from count text old new (Ok told) is tells = (text, is, tells)

@@ -4,9 +4,11 @@ use Rattle.std.specs.IoError.{error_kind}
 use Rattle.std.specs.Io.KnownBytes.{Appends, Keeps}
 use Rattle.std.specs.declared.io.ErrorKind.TheVariants.{BrokenPipe}
 use Rattle.jdwp_show.specs.declared.capture_fault.CaptureFault.{CaptureFault}
-use Rattle.jdwp_show.specs.CaptureLines.{capture_lines}
+use Rattle.jdwp_show.specs.declared.table.Table.{Table}
+use Rattle.jdwp_show.specs.declared.table.Table.TheVariants.{Standard}
+use Rattle.jdwp_show.specs.CaptureLines.{capture_lines_under}
 use Rattle.jdwp_show.specs.FaultNumbers.{number_to_print}
-use Rattle.jdwp_show.specs.Sessions.{first_fault}
+use Rattle.jdwp_show.specs.Sessions.{first_fault_under}
 use Rattle.jdwp_program.specs.declared.captures.Told.{Told}
 use Rattle.jdwp_program.specs.declared.captures.Told.TheVariants.{Faultless, Faulty, Unread}
 use Rattle.jdwp_program.specs.declared.captures.TellFault.{TellFault}
@@ -27,9 +29,13 @@ abbrev pub fault_text : Option (ℕ × CaptureFault) → List ℕ
 fault_text None = []
 fault_text (Some place) = fault_line place
 
--- what `show` prints of a capture
+-- what `show` prints of a capture whose data are read by this table
+abbrev pub shown_text_under : Table → List ℕ → List ℕ
+shown_text_under table capture = capture_lines_under table capture ++ fault_text (first_fault_under table capture)
+
+-- by the standard's
 abbrev pub shown_text : List ℕ → List ℕ
-shown_text capture = capture_lines capture ++ fault_text (first_fault capture)
+shown_text capture = shown_text_under Standard capture
 
 -- What is answered where this text was to be printed of a capture with this first fault or without one, and what the writer held before
 -- and holds then: all of the text where it was told; else a beginning, where a write failed; nothing where no memory was left.

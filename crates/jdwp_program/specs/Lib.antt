@@ -9,6 +9,7 @@ pub mod Notices
 pub mod Outputs
 pub mod Printing
 pub mod Statuses
+pub mod Streaming
 pub mod Values
 pub mod Version
 pub mod Words

@@ -1,24 +1,27 @@
 -- What a run of the program leaves on its standard output.
-use Rattle.std.specs.Prelude.{◌≡◌, ◌≤◌, ◌⊎◌, ℕ, List, ◌++◌, Option, Some, None, Result, Ok, Err, MatchResult}
+use Rattle.std.specs.Prelude.{◌≡◌, ◌<◌, ◌≤◌, ◌⊎◌, ℕ, List, ◌++◌, Option, Some, None, Result, Ok, Err, MatchResult}
 use Rattle.std.specs.Io.KnownBytes.{Appends, Keeps}
 use Rattle.std.specs.List.{flat_map}
 use Rattle.jdwp_show.specs.declared.capture_fault.CaptureFault.{CaptureFault}
-use Rattle.jdwp_show.specs.Sessions.{first_fault}
+use Rattle.jdwp_show.specs.declared.table.Table.{Table}
+use Rattle.jdwp_show.specs.declared.table.Table.TheVariants.{Standard}
+use Rattle.jdwp_show.specs.Sessions.{first_fault_under}
 use Rattle.jdwp_program.specs.declared.captures.Told.{Told}
 use Rattle.jdwp_program.specs.declared.captures.TellFault.{TellFault}
 use Rattle.jdwp_program.specs.declared.fault.Fault.{Fault}
 use Rattle.jdwp_program.specs.declared.outcome.Outcome.{Outcome}
-use Rattle.jdwp_program.specs.Captures.{shown_text, verdict_text}
+use Rattle.jdwp_program.specs.Captures.{shown_text, shown_text_under, verdict_text}
 use Rattle.jdwp_program.specs.Drawings.{IsDrawing}
 use Rattle.jdwp_program.specs.Files.{fault_of_telling}
 use Rattle.jdwp_program.specs.Listening.{listening_line}
-use Rattle.jdwp_program.specs.Printing.{AppendsPart}
+use Rattle.jdwp_program.specs.Printing.{AppendsPart, AppendsSome}
 use Rattle.jdwp_program.specs.Version.{version_line}
 use Rattle.jdwp_program.specs.Statuses.{status_of_told, status_of_fault, status_of_outcome}
 
--- what is printed of a capture: it in words, or the verdict, or a drawing of it
-abbrev pub IsTextOf : List ℕ → List ℕ → Type 0
-IsTextOf capture text = (text ≡ shown_text capture) ⊎ ((text ≡ verdict_text (first_fault capture)) ⊎ ((from : ℕ) × (count : ℕ) × IsDrawing capture from count text))
+-- What is printed of a capture whose data are read by this table: it in words, or the verdict, or a drawing of it, which is by the standard's.
+abbrev pub IsTextOf : Table → List ℕ → List ℕ → Type 0
+IsTextOf table capture text =
+    (text ≡ shown_text_under table capture) ⊎ ((text ≡ verdict_text (first_fault_under table capture)) ⊎ ((table ≡ Standard) × (from : ℕ) × (count : ℕ) × IsDrawing capture from count text))
 
 -- the status of a capture that was told whole
 abbrev pub status_of_capture : Option (ℕ × CaptureFault) → ℕ
@@ -28,13 +31,17 @@ status_of_capture (Some fault) = 1
 -- a run with this status told a capture: all of it, and the status is 0 where the capture has no fault and else 1; or a beginning, and 2
 abbrev pub LeavesCapture : ℕ → Option (List ℕ) → Option (List ℕ) → Type 0
 LeavesCapture status old new =
-    (capture : List ℕ) × (text : List ℕ) × IsTextOf capture text × (((status ≡ status_of_capture (first_fault capture)) × Appends old new text) ⊎ ((status ≡ 2) × AppendsPart old new text))
+    (table : Table) × (capture : List ℕ) × (text : List ℕ) × IsTextOf table capture text × (((status ≡ status_of_capture (first_fault_under table capture)) × Appends old new text) ⊎ ((status ≡ 2) × AppendsPart old new text))
 
 -- a run with this status told what a recording gave of a capture, it or what is printed of it: all of that, and the status is 1 where the
 -- recording or the capture has a fault; or a beginning, and 2
 abbrev pub LeavesRecorded : ℕ → Option (List ℕ) → Option (List ℕ) → Type 0
 LeavesRecorded status old new =
-    (capture : List ℕ) × (text : List ℕ) × (IsTextOf capture text ⊎ (text ≡ capture)) × (((status ≤ 1) × Appends old new text) ⊎ ((status ≡ 2) × AppendsPart old new text))
+    (table : Table) × (capture : List ℕ) × (text : List ℕ) × (IsTextOf table capture text ⊎ (text ≡ capture)) × (((status ≤ 1) × Appends old new text) ⊎ ((status ≡ 2) × AppendsPart old new text))
+
+-- a run with this status told a beginning of a capture in words while it was read: a read of it failed, or no memory was left
+abbrev pub LeavesBegun : ℕ → Option (List ℕ) → Option (List ℕ) → Type 0
+LeavesBegun status old new = (table : Table) × (capture : List ℕ) × (0 < status) × AppendsSome old new (shown_text_under table capture)
 
 -- a run with this status told the program's version: all of it, and the status is 0, or a beginning, and 2
 abbrev pub LeavesVersion : ℕ → Option (List ℕ) → Option (List ℕ) → Type 0
@@ -56,11 +63,11 @@ LeavesShown status old new = (captures : List (List ℕ)) × LeavesText status (
 abbrev pub LeavesListening : ℕ → Option (List ℕ) → Option (List ℕ) → Type 0
 LeavesListening status old new = (port : ℕ) × (captures : List (List ℕ)) × LeavesText status (listening_line port ++ shown_texts captures) old new
 
--- what a run with this status leaves: nothing, what it told of a capture or a recording, the program's version, or the line of a port and what
--- came behind it
+-- what a run with this status leaves: nothing, what it told of a capture or a recording, the program's version, the line of a port and what came
+-- behind it, or a beginning of a capture in words
 abbrev pub Leaves : ℕ → Option (List ℕ) → Option (List ℕ) → Type 0
 Leaves status old new =
-    Keeps old new ⊎ (LeavesCapture status old new ⊎ (LeavesVersion status old new ⊎ (LeavesListening status old new ⊎ LeavesRecorded status old new)))
+    Keeps old new ⊎ (LeavesCapture status old new ⊎ (LeavesVersion status old new ⊎ (LeavesListening status old new ⊎ (LeavesRecorded status old new ⊎ LeavesBegun status old new))))
 
 -- the same by what was answered of a capture or the version
 abbrev pub LeavesTold : Result Told TellFault → Option (List ℕ) → Option (List ℕ) → Type 0

@@ -1,13 +1,14 @@
 //! Captures, shown and judged on a writer.
 ghost use Rattle.std.specs.Prelude.{◌≡◌, ◌++◌, IfOk, None, OnOk};
 ghost use Rattle.std.specs.String.{string_bytes};
-ghost use Rattle.jdwp_show.specs.Sessions.{first_fault};
+ghost use Rattle.jdwp_show.specs.Sessions.{first_fault_under};
 ghost use Rattle.jdwp_program.specs.declared.captures.TellFault.TheVariants as fault;
-ghost use Rattle.jdwp_program.specs.Captures.{Tells, fault_line, shown_text, verdict_text};
+ghost use Rattle.jdwp_program.specs.Captures.{Tells, fault_line, shown_text_under, verdict_text};
 ghost use Rattle.jdwp_program.specs.Outputs.{LeavesTold};
 
 use crate::printing::print;
-use jdwp_show::{CaptureFault, Verdict, check, show};
+use jdwp_judge::{check_under, show_under};
+use jdwp_show::{CaptureFault, Table, Verdict};
 use jdwp_wire::NoMemory;
 use std::alloc::{AllocError, Global};
 use std::io;
@@ -52,30 +53,41 @@ impl From<AllocError> for TellFault {
     }
 }
 
-/// Shows a capture: its lines, and then `line N: fault K` where it has a fault.
+/// Shows a capture whose data are read by this table: its lines, and then `line N: fault K` where it has a fault.
 ///
 /// # Errors
 /// `Output` where the output didn't take all of it; `NoMemory`, and then nothing was printed.
-pub fn show_capture<O: Write>(alloc: Global, capture: &str, out: &mut O) -> Result<Told, TellFault>
-    ensures tells { Tells (first_fault capture.now) (shown_text capture.now) (O.contents out.old)
-        (O.contents out.new) result }
+pub fn show_capture<O: Write>(
+    alloc: Global,
+    table: Table,
+    capture: &str,
+    out: &mut O,
+) -> Result<Told, TellFault>
+    ensures tells { Tells (first_fault_under table capture.now) (shown_text_under table capture.now)
+        (O.contents out.old) (O.contents out.new) result }
     // The same by the exit status.
     ensures leaves { LeavesTold result (O.contents out.old) (O.contents out.new) }
 {
-    let shown = shown(alloc, capture)?;
+    let shown = shown(alloc, table, capture)?;
     tell(out, shown.text.as_str(), shown.fault)
 }
 
-/// Judges a capture: `yes`, or `no: line N: fault K`.
+/// Judges a capture whose data are read by this table: `yes`, or `no: line N: fault K`.
 ///
 /// # Errors
 /// As those of `show_capture`.
-pub fn check_capture<O: Write>(alloc: Global, capture: &str, out: &mut O) -> Result<Told, TellFault>
-    ensures tells { Tells (first_fault capture.now) (verdict_text (first_fault capture.now))
-        (O.contents out.old) (O.contents out.new) result }
+pub fn check_capture<O: Write>(
+    alloc: Global,
+    table: Table,
+    capture: &str,
+    out: &mut O,
+) -> Result<Told, TellFault>
+    ensures tells { Tells (first_fault_under table capture.now)
+        (verdict_text (first_fault_under table capture.now)) (O.contents out.old)
+        (O.contents out.new) result }
     ensures leaves { LeavesTold result (O.contents out.old) (O.contents out.new) }
 {
-    let judged = judged(alloc, capture)?;
+    let judged = judged(alloc, table, capture)?;
     tell(out, judged.text.as_str(), judged.fault)
 }
 
@@ -97,11 +109,11 @@ struct Text {
 }
 
 /// A capture in words.
-fn shown(alloc: Global, capture: &str) -> Result<Text, NoMemory>
-    ensures fault { IfOk result (λ t. t.fault ≡ first_fault capture.now) }
-    ensures text { IfOk result (λ t. string_bytes t.text ≡ shown_text capture.now) }
+fn shown(alloc: Global, table: Table, capture: &str) -> Result<Text, NoMemory>
+    ensures fault { IfOk result (λ t. t.fault ≡ first_fault_under table capture.now) }
+    ensures text { IfOk result (λ t. string_bytes t.text ≡ shown_text_under table capture.now) }
 {
-    let shown = show(alloc, capture)?;
+    let shown = show_under(alloc, table, capture)?;
     let mut text = shown.lines;
     let fault = shown.fault;
     if let Some((line, fault)) = fault {
@@ -111,12 +123,12 @@ fn shown(alloc: Global, capture: &str) -> Result<Text, NoMemory>
 }
 
 /// The verdict on a capture.
-fn judged(alloc: Global, capture: &str) -> Result<Text, NoMemory>
-    ensures fault { IfOk result (λ t. t.fault ≡ first_fault capture.now) }
+fn judged(alloc: Global, table: Table, capture: &str) -> Result<Text, NoMemory>
+    ensures fault { IfOk result (λ t. t.fault ≡ first_fault_under table capture.now) }
     ensures text { IfOk result (λ t. string_bytes t.text ≡ verdict_text t.fault) }
 {
     let mut text = String::new(alloc);
-    match check(alloc, capture)? {
+    match check_under(alloc, table, capture)? {
         Verdict::Yes => {
             text.push_str("yes\n")?;
             Ok(Text { text, fault: None })
@@ -131,7 +143,11 @@ fn judged(alloc: Global, capture: &str) -> Result<Text, NoMemory>
 }
 
 /// Appends the line and the number of a fault.
-fn push_fault(text: &mut String, line: usize, fault: CaptureFault) -> Result<(), AllocError>
+pub(crate) fn push_fault(
+    text: &mut String,
+    line: usize,
+    fault: CaptureFault,
+) -> Result<(), AllocError>
     ensures { OnOk result (string_bytes text.new ≡ string_bytes text.old ++ fault_line
         (line, fault)) }
 {

@@ -14,6 +14,7 @@ mod notices;
 mod outcome;
 mod printing;
 mod recordings;
+mod streaming;
 mod values;
 mod version;
 mod words;
@@ -29,7 +30,8 @@ pub use losing::{Loss, Side};
 pub use notices::Lines;
 pub use outcome::{Outcome, report_fault, report_outcome, report_plan};
 pub use recordings::{Recorded, report_connections, session_of};
-pub use values::{decimal, is_all, limits, order, profile};
+pub use streaming::{StreamFault, check_stream, show_stream};
+pub use values::{decimal, is_all, limits, order, profile, table_of};
 pub use version::{VERSION, tell_version};
 pub use words::{
     Attach, Between, CaptureFile, Draw, Emptied, Pair, Peer, Record, ServeScript, SessionFiles,

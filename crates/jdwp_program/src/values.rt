@@ -2,11 +2,13 @@
 ghost use Rattle.std.specs.Prelude.{◌≡◌, ◌↔◌, ℕ, List, Some, IfSome, MatchOption, true, false, codes};
 ghost use Rattle.jdwp_debugger.specs.declared.order.Order.TheVariants as orders;
 ghost use Rattle.jdwp_machine.specs.declared.profile.Profile.TheVariants as profiles;
+ghost use Rattle.jdwp_show.specs.declared.table.Table.TheVariants as tables;
 ghost use Rattle.jdwp_wire.specs.Limits as wire;
 ghost use Rattle.jdwp_program.specs.Values.{AreNumbers, IsDecimal, IsPartedByComma, IsSaidBy};
 
 use jdwp_debugger::Order;
 use jdwp_machine::Profile;
+use jdwp_show::Table;
 use jdwp_wire::Limits;
 
 /// Whether a target starts with every thread suspended: `all`, or `none`.
@@ -48,6 +50,17 @@ pub fn profile(text: &str) -> Option<Profile>
         Some(Profile::Jdi)
     } else {
         None
+    }
+}
+
+/// The table of commands by which the data of a session are read whose target has this profile.
+pub fn table_of(profile: Profile) -> Table
+    ensures standard { (result ≡ tables.Standard) ↔ (profile ≡ profiles.Standard) }
+    ensures jdi { (result ≡ tables.Jdi) ↔ (profile ≡ profiles.Jdi) }
+{
+    match profile {
+        Profile::Standard => Table::Standard,
+        Profile::Jdi => Table::Jdi,
     }
 }
 

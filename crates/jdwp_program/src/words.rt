@@ -4,6 +4,7 @@ ghost use Rattle.jdwp_program.specs.Words.{KeepsFile, KeepsFiles, KeepsFromCases
 
 use jdwp_debuggee::Settings;
 use jdwp_debugger::Order;
+use jdwp_show::Table;
 use jdwp_wire::Limits;
 
 /// A command, with its files and options.
@@ -29,7 +30,7 @@ pub enum Words<'a> {
     Version,
 }
 
-/// `FILE [--target-port N] [--stream N]`, behind `show`, `check`, `capture` or `draw`.
+/// `FILE [--target-port N] [--stream N]`, behind `show`, `check`, `capture` or `draw`; and `--profile standard|jdi` behind the first two.
 #[derive(Clone, Copy, Debug, PartialEq, Eq)]
 pub struct CaptureFile<'a> {
     /// The file of a capture, or of a recording of the network.
@@ -38,6 +39,8 @@ pub struct CaptureFile<'a> {
     pub target_port: Option<u16>,
     /// Which connection of a recording it is, from 1, by their first packets.
     pub stream: u32,
+    /// By which table of commands data are read.
+    pub table: Table,
 }
 
 /// `draw FILE [--target-port N] [--stream N] [--from N] [--count N]`.

@@ -5,21 +5,22 @@ ghost use Rattle.jdwp_words.specs.Commands.{RunsPlanOnlyWhere};
 ghost use Rattle.jdwp_program.specs.Words.{KeepsFiles};
 
 use crate::arguments::{
-    capture, file, first_message, flag, listen, message_count, once, option, recorded_to, show,
-    stream, target, target_port,
+    capture, count_limit, defer, first_message, from, junit, limits_option, listen, live, machine,
+    memory, message_count, once, order_option, pace, plan, port, profile_option, recorded_to, show,
+    start, stream, target, target_port, timeout, to, turns,
 };
 use crate::refusing::{bad_words, refused};
 use clap::error::ErrorKind;
-use clap::{Arg, ArgMatches, Command, value_parser};
+use clap::{Arg, ArgMatches, Command};
 use jdwp_debuggee::Settings;
 use jdwp_debugger::Order;
 use jdwp_machine::Profile;
 use jdwp_program::{
     Attach, Between, CaptureFile, Draw, Emptied, Fault, Pair, Peer, Record, ServeScript,
-    SessionFiles, VERSION, Words, decimal, is_all, limits, order, profile,
+    SessionFiles, VERSION, Words, decimal, is_all, limits, order, profile, table_of,
 };
+use jdwp_show::Table;
 use jdwp_wire::Limits;
-use jdwp_wire::number::GREATEST_INT;
 use std::alloc::{AllocError, Global};
 use std::convert::AsStr;
 
@@ -126,7 +127,8 @@ enum Part {
     Memory,
     Start,
     CountLimit,
-    Profile,
+    /// What help tells of it.
+    Profile(&'static str),
     Order,
     Limits,
     Defer,
@@ -144,7 +146,14 @@ enum Part {
 const CAPTURE_HELP: &str =
     "A text of lines `> HEX` (from the debugger) and `< HEX` (from the target), or a recording of the network (pcap or pcapng); `-` is standard input";
 
-static OF_A_CAPTURE: [Part; 3] = [Part::Capture(CAPTURE_HELP), Part::TargetPort, Part::Stream];
+static OF_A_CAPTURE: [Part; 4] = [
+    Part::Capture(CAPTURE_HELP),
+    Part::TargetPort,
+    Part::Stream,
+    Part::Profile(
+        "Which data are read: those of the standard commands, or also those of others that a target of this profile answers",
+    ),
+];
 
 static OF_A_RECORDING: [Part; 3] = [
     Part::Capture("A recording of the network (pcap or pcapng); `-` is standard input"),
@@ -169,7 +178,9 @@ static OF_SERVE_SCRIPT: [Part; 12] = [
     Part::Pace,
     Part::Start,
     Part::CountLimit,
-    Part::Profile,
+    Part::Profile(
+        "What the target answers: the standard commands, or also what debuggers over the Java Debug Interface ask for, as jdb and IDEs",
+    ),
     Part::Limits,
     Part::Defer,
     Part::Turns("How many rounds a session has at most"),
@@ -321,7 +332,17 @@ fn read_capture<'a>(
         file: value(alloc, found, "file")?,
         target_port: read_target_port(alloc, found, of)?,
         stream: number(alloc, found, "stream", of)?,
+        table: read_table(alloc, found, of)?,
     })
+}
+
+/// By which table of commands data are read.
+fn read_table<'a>(alloc: Global, found: &ArgMatches<'a>, of: Name) -> Result<Table, Fault<'a>> {
+    match of {
+        Name::Show | Name::Check => Ok(table_of(read_profile(alloc, found, of)?)),
+        Name::Capture | Name::Draw | Name::ServeScript | Name::Attach | Name::Pair | Name::Record =>
+            Ok(Table::Standard),
+    }
 }
 
 /// The file of a capture, and which of its messages are drawn.
@@ -353,7 +374,7 @@ fn read_serve_script<'a>(
     let live = read_live(alloc, found)?;
     let settings = read_settings(alloc, found, count_limit, Name::ServeScript)?;
     Ok(ServeScript {
-        settings: settings.with_profile(read_profile(alloc, found)?),
+        settings: settings.with_profile(read_profile(alloc, found, Name::ServeScript)?),
         defer: found.get_flag("defer"),
         machine: value(alloc, found, "machine")?,
         peer: read_server_peer(alloc, found, live.is_some())?,
@@ -363,14 +384,10 @@ fn read_serve_script<'a>(
 }
 
 /// The profile that the option says.
-fn read_profile<'a>(alloc: Global, found: &ArgMatches<'a>) -> Result<Profile, Fault<'a>> {
+fn read_profile<'a>(alloc: Global, found: &ArgMatches<'a>, of: Name) -> Result<Profile, Fault<'a>> {
     match profile(value(alloc, found, "profile")?) {
         Some(profile) => Ok(profile),
-        None => Err(bad_words(
-            alloc,
-            named_in_full(alloc, Name::ServeScript),
-            "the options don't read",
-        )),
+        None => Err(bad_words(alloc, named_in_full(alloc, of), "the options don't read")),
     }
 }
 
@@ -659,7 +676,7 @@ fn argument_of<'a>(alloc: Global, part: Part) -> Result<Arg<'a>, AllocError> {
         Part::Memory => Ok(memory(alloc)),
         Part::Start => Ok(start(alloc)),
         Part::CountLimit => Ok(count_limit(alloc)),
-        Part::Profile => Ok(profile_option(alloc)),
+        Part::Profile(help) => Ok(profile_option(alloc, help)),
         Part::Order => Ok(order_option(alloc)),
         Part::Limits => Ok(limits_option(alloc)),
         Part::Defer => Ok(defer(alloc)),
@@ -672,128 +689,4 @@ fn argument_of<'a>(alloc: Global, part: Part) -> Result<Arg<'a>, AllocError> {
         Part::Show => Ok(show(alloc)),
         Part::Once => Ok(once(alloc)),
     }
-}
-
-/// The file that the expectations of a plan in words are told in.
-fn junit<'a>(alloc: Global) -> Arg<'a> {
-    let help =
-        "Where the expectations of a plan in words are written as test cases, in JUnit's XML";
-    option(alloc, "junit", "FILE", help)
-}
-
-/// The file of a script.
-fn machine<'a>(alloc: Global) -> Arg<'a> {
-    let help = "The script of the machine to be debugged, in JSON";
-    file(alloc, "machine", "MACHINE", help)
-}
-
-/// The file of a plan.
-fn plan<'a>(alloc: Global, help: &'a str) -> Arg<'a> {
-    file(alloc, "plan", "PLAN", help)
-}
-
-/// The file that a session's bytes are read from. With that of `to` it stands where no port does.
-fn from<'a>(alloc: Global, help: &'a str) -> Arg<'a> {
-    option(alloc, "from", "FILE", help)
-}
-
-/// The file that a session's bytes are written to.
-fn to<'a>(alloc: Global, help: &'a str) -> Arg<'a> {
-    option(alloc, "to", "FILE", help)
-}
-
-/// The port that a session is at, in place of files, from this one on.
-fn port<'a>(alloc: Global, help: &'a str, least: i64) -> Result<Arg<'a>, AllocError> {
-    option(alloc, "port", "N", help)
-        .value_parser(value_parser!(u32).range(least..=65535))
-        .conflicts_with_all(&["from", "to"])
-}
-
-/// That sessions are live.
-fn live<'a>(alloc: Global) -> Result<Arg<'a>, AllocError> {
-    let help =
-        "Threads step only while nothing comes, and the next debugger is awaited for ever; --port 0 is a port that the system chooses";
-    let option: Arg<'a> = flag(alloc, "live", help);
-    let option: Arg<'a> = option.requires_arg("port")?;
-    option.conflicts_with_all(&["from", "to", "turns"])
-}
-
-/// How far the steps of live sessions are apart.
-fn pace<'a>(alloc: Global) -> Result<Arg<'a>, AllocError> {
-    let help =
-        "How many milliseconds pass at least between two steps of live sessions, 0 if it is not given";
-    let option: Arg<'a> = option(alloc, "pace", "MS", help).value_parser(value_parser!(u32));
-    let option: Arg<'a> = option.requires_arg("live")?;
-    option.conflicts_with_all(&["from", "to", "turns"])
-}
-
-/// That nothing but memory is between both ends of a session.
-fn memory<'a>(alloc: Global) -> Arg<'a> {
-    let help =
-        "Bytes go from one end to the other in memory, and no connection is made, as a plan in words always has it";
-    flag(alloc, "memory", help)
-}
-
-/// That the target defers replies.
-fn defer<'a>(alloc: Global) -> Arg<'a> {
-    let help =
-        "Puts commands of the sets ReferenceType and Method off until a round handles nothing, the newest first";
-    flag(alloc, "defer", help)
-}
-
-/// Which threads begin suspended.
-fn start<'a>(alloc: Global) -> Arg<'a> {
-    option(alloc, "start", "WHICH", "Which threads VM_START suspends")
-        .value_parser(["all", "none"].as_slice())
-        .default_value("all")
-}
-
-/// The greatest suspend count that a Suspend gives.
-fn count_limit<'a>(alloc: Global) -> Arg<'a> {
-    let help = "The greatest suspend count that a Suspend gives";
-    option(alloc, "count-limit", "N", help)
-        .value_parser(value_parser!(u32).range(1..=i64::from(GREATEST_INT)))
-        .default_value("65535")
-}
-
-/// What the target answers.
-fn profile_option<'a>(alloc: Global) -> Arg<'a> {
-    let help =
-        "What the target answers: the standard commands, or also what debuggers over the Java Debug Interface ask for, as jdb and IDEs";
-    option(alloc, "profile", "PROFILE", help)
-        .value_parser(["standard", "jdi"].as_slice())
-        .default_value("standard")
-}
-
-/// In which order the target sends.
-fn order_option<'a>(alloc: Global) -> Arg<'a> {
-    let help =
-        "Whether the target sends replies and events as it acts, or by threads of their own, as Java machines do";
-    option(alloc, "order", "ORDER", help)
-        .value_parser(["one", "apart"].as_slice())
-        .default_value("one")
-}
-
-/// The limits of a session.
-fn limits_option<'a>(alloc: Global) -> Arg<'a> {
-    let help = "The most bytes of a packet, live threads, event requests and commands that wait";
-    option(alloc, "limits", "PACKET,LIVE,REQUESTS,PENDING", help)
-}
-
-/// The most turns of a session.
-fn turns<'a>(alloc: Global, help: &'a str) -> Arg<'a> {
-    option(alloc, "turns", "N", help)
-        .value_parser(value_parser!(u32))
-        .default_value("100000")
-}
-
-/// How long a target may be silent.
-fn timeout<'a>(alloc: Global) -> Result<Arg<'a>, AllocError> {
-    let help =
-        "For how many milliseconds nothing may come from the port until the session is lost, for ever if it is not given";
-    let option: Arg<'a> = option(alloc, "timeout", "MS", help).value_parser(value_parser!(
-        u32
-    ).range(1..=i64::from(GREATEST_INT)));
-    let option: Arg<'a> = option.requires_arg("port")?;
-    option.conflicts_with_all(&["from", "to"])
 }

@@ -7,4 +7,5 @@ mod plan_tests;
 mod port_tests;
 mod program_tests;
 mod session_tests;
+mod stream_tests;
 mod text_tests;

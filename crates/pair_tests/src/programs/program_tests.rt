@@ -8,6 +8,7 @@ use jdwp_program::{
     is_all, limits, report_fault, report_outcome, show_capture, text_of,
 };
 use jdwp_script::{Cause, Detail, Entry, Member, Path, ScriptFault};
+use jdwp_show::Table;
 use jdwp_wire::Limits;
 use std::alloc::Global;
 use std::io;
@@ -104,7 +105,10 @@ fn whole(alloc: Global) -> Output {
 /// The capture is shown so.
 fn is_shown(rt: &impl Abort, alloc: Global, capture: &str, shown: &str, told: &Told) {
     let mut out = whole(alloc);
-    let found = show_capture(alloc, capture, &mut out).expect(rt, "a capture that is shown");
+    let found = show_capture(alloc, Table::Standard, capture, &mut out).expect(
+        rt,
+        "a capture that is shown",
+    );
     expect_same(rt, &found, told);
     expect_same_for(rt, &out.bytes.as_slice(), &shown.as_bytes(), &capture);
 }
@@ -112,7 +116,10 @@ fn is_shown(rt: &impl Abort, alloc: Global, capture: &str, shown: &str, told: &T
 /// The capture is judged so.
 fn is_judged(rt: &impl Abort, alloc: Global, capture: &str, judged: &str, told: &Told) {
     let mut out = whole(alloc);
-    let found = check_capture(alloc, capture, &mut out).expect(rt, "a capture that is judged");
+    let found = check_capture(alloc, Table::Standard, capture, &mut out).expect(
+        rt,
+        "a capture that is judged",
+    );
     expect_same(rt, &found, told);
     expect_same_for(rt, &out.bytes.as_slice(), &judged.as_bytes(), &capture);
 }
@@ -141,7 +148,7 @@ fn breaks(rt: &impl Abort, alloc: Global, most: usize, call: usize, kind: ErrorK
     let before = most.saturating_mul(call.saturating_sub(1));
     let is_broken = before < SHOWN.len() && want != "faultless";
     let mut out = Output::new(alloc, most, call, kind);
-    let ended = end(show_capture(alloc, CAPTURE, &mut out));
+    let ended = end(show_capture(alloc, Table::Standard, CAPTURE, &mut out));
     expect_same(rt, &ended, &if is_broken { want } else { "faultless" });
     let taken = if is_broken { before } else { SHOWN.len() };
     expect_same(

@@ -3,9 +3,10 @@
 use super::fakes::{Paper, Pen};
 use super::packets::{ANSWERS, ASKS};
 use crate::asserts::expect_same;
+use jdwp_judge::{check, show};
 use jdwp_port::{bind, connect};
 use jdwp_record::record_streams;
-use jdwp_show::{Verdict, check, show};
+use jdwp_show::Verdict;
 use std::alloc::Global;
 use std::io::{ErrorKind, Read, Write};
 use std::net::{Net, OpenStream, Shutdown};

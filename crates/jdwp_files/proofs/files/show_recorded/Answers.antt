@@ -4,7 +4,7 @@ use Rattle.jdwp_files.proofs.files.show_recorded.Goals as goal
 
 pub returns-in-Ok : goal.returns-in-Ok
 returns-in-Ok g c =
-    behind c.as_str.result.now _ _ _ _ c.in-Ok.told c.faulty_where.result (inl (inl refl)) c.in-Ok.ensures.tells c.in-Ok.ensures.leaves c.faulty_where.ensures.ok c.faulty_where.ensures.err
+    behind c.args.words.now.table c.as_str.result.now _ _ _ _ c.in-Ok.told c.faulty_where.result (inl (inl refl)) c.in-Ok.ensures.tells c.in-Ok.ensures.leaves c.faulty_where.ensures.ok c.faulty_where.ensures.err
 
 pub returns-in-Err-Output : goal.returns-in-Err-Output
 returns-in-Err-Output g c = rw c.in-Err-Output.field-0-is at c.in-Err-Output.ensures.leaves
