@@ -77,6 +77,11 @@ public class JdiSteps {
             }
             return told;
         });
+        tell("invoked", () -> {
+            ObjectReference object = (ObjectReference) thread.frame(0).getValue(thread.frame(0).visibleVariableByName("counter"));
+            return value(object.invokeMethod(thread, counter.methodsByName("toString").get(0), List.of(), ClassType.INVOKE_SINGLE_THREADED));
+        });
+        tell("string", () -> value(machine.mirrorOf("a text")));
         tell("suspended", () -> machine.allThreads().stream().map(t -> String.valueOf(t.isSuspended())).collect(Collectors.joining(" ")));
         tell("monitors", thread::ownedMonitors);
         tell("step", () -> {

@@ -6,10 +6,11 @@ AllThreads, StringReference.Value and ArrayReference.GetValues in turn); each wi
 Method.Bytecodes, of 50,000 bytes, and to AllClasses, of 1,000 classes); and commands that all wait, under ids in order and under ids that collide in a hash map of fixed hashing
 (`colliding_ids.c`, where there is a `cc`). Runs `check` and `show` on them, and prints MB of text a second (the best of three runs), and the peak of memory in MB and for each byte of text; beside them, how fast `cat`
 gives the same file, and for short packets, where there is a `rustc`, how fast a plain program does the same (`plain_captures.rs`). All runs are
-pinned to one processor, where `taskset` is there. To reach: 0.6 of the plain program's speed in both, commands under ids that collide above 35 MB a
-second, and at most 3 bytes of memory a byte of text, however short the lines are.
+pinned to one processor, where `taskset` is there. To reach: 0.8 of the plain program's speed in both, but 0.6 with one byte a line, commands under ids
+that collide above 35 MB a second, and at most 3 bytes of memory a byte of text, however short the lines are.
 
     bench/captures.py [PROGRAM] [MB..]
+    bench/captures.py [PROGRAM] --stream GB     how fast `show -` tells a capture of so many GB from a pipe, and its peak of memory: below 64 MB
 
 PROGRAM is crates/jdwp/out/jdwp where none is given (`rt run` in crates/jdwp builds it), and MB is 10 and 100.
 """
@@ -169,11 +170,28 @@ def measure(program, path, made, name, plain=None):
         print(f"{name}: {word} {made / seconds / 1e6:.0f} MB/s, peak {peak / 1e6:.0f} MB, {peak / made:.1f} bytes a byte of text", flush=True)
 
 
+def stream(program, size):
+    """A capture of so many bytes comes from a pipe: exchanges under the same ids again and again."""
+    sides = exchanges(short_exchange)
+    head = "".join(packet_lines(itertools.islice(sides, 2))).encode()
+    block = "".join(packet_lines(itertools.islice(sides, 20_000))).encode()
+    start = time.perf_counter()
+    process = subprocess.Popen([program, "show", "-"], stdin=subprocess.PIPE, stdout=subprocess.DEVNULL)
+    process.stdin.write(head)
+    for _ in range(-(-size // len(block))):
+        process.stdin.write(block)
+    process.stdin.close()
+    _, status, usage = os.wait4(process.pid, 0)
+    print(f"{size / 1e9:g} GB from a pipe: status {os.waitstatus_to_exitcode(status)}, {size / (time.perf_counter() - start) / 1e6:.0f} MB/s, peak {usage.ru_maxrss * 1024 / 1e6:.0f} MB")
+
+
 def main():
     words = sys.argv[1:]
     program = os.path.join(ROOT, "crates", "jdwp", "out", "jdwp")
     if words and not words[0].isdigit():
         program = os.path.abspath(words.pop(0))
+    if words[:1] == ["--stream"]:
+        return stream(program, int(words[1]) * 1_000_000_000)
     sizes = [int(word) for word in words] or [10, 100]
     packets = {"short packets": short_exchange, "60,000-byte packets": large_exchange}
     forms = {"one byte a line": byte_lines, "one packet a line": packet_lines, "long lines": long_lines}

@@ -28,7 +28,7 @@ ROWS = """\
 ## Both ends in one process
 
 jdwp_link | Link::run held; Link::session held | A thread that the mirror holds is suspended in the target now, unless the machine died, the target noticed a loss in this session, or a Dispose, or a Resume of the thread or of all, is unanswered
-jdwp_link | Link::run mirror at_most | The mirror shows what the target had as it sent the last packet read: threads, counts (of one that did not live then, by its own rule) and event requests; the target's count of one that lived then is at most the mirror's, the unanswered Suspends and the composites not read together
+jdwp_link | Link::run mirror at_most | The mirror shows what the target had as it sent the last packet read: threads, counts and event requests; the target's count of one that lived then is at most the mirror's, the unanswered Suspends and the composites not read together
 jdwp_link | Link::run stays | What was read of a suspended thread's frames the target would answer now, as the ninth statement in [SUSPENSION](SUSPENSION.md#what-is-proved) has it
 jdwp_link | Link::run ok err | Events do and tell what the model of a session does and tells, so neither end refuses what the other sent; where memory was refused, exactly those before are done
 jdwp_link | Link::run memory | Only an Ask, a turn at a whole message (of the target, one that calls for some), a release, a step and a loss at the debugger where commands wait may want memory
@@ -49,7 +49,7 @@ jdwp_across | holds_after_other_sessions; holds_within_after_others; holds_of_tw
 ## The model of both ends, for every lawful machine and any list of events
 
 jdwp_model | mirrors_what_was_seen; holds_only_suspended_threads; counts_at_most; settles_each_command_once; settles_in_order; tells_what_was_given; meets_no_fault; turns_close_at_ends_alone; idle_turns_change_nothing; answers_one_that_waits; answers_the_first_waiting; defers_few_commands; frames_read_stay_true | The statements of [SUSPENSION](SUSPENSION.md#what-is-proved), in their order
-jdwp_debuggee | moves_counts_and_requests; leaves_state_at_plain_commands | What commands and steps do to counts and requests, and which change nothing
+jdwp_debuggee | moves_counts_and_requests; leaves_state_at_plain_commands; answers_invocations | What commands and steps do to counts and requests, and which change nothing
 jdwp_debuggee | steps_where_it_runs; starts_with_least_thread | A thread steps only where it lives and is not suspended, events are not held, and no thread stands at the count limit; where one lives VM_START names that of least id
 
 ## A target that sends by threads of its own
@@ -101,9 +101,9 @@ jdwp_wire | finds_first_message; Limits::new; IdSizes::new | A stream cut anywhe
 jdwp_wire | Wire::take found only fault memory; Wire::put ok err; Wire again; begins_with_one_value | A writing appends the canonical bytes, or changes nothing; what is written reads again whatever follows, no two values stand at one front, a fault is the first from the left, and want of memory hides none
 jdwp_layout | layout_of | A command's row is that of the definitions' table of 94, or None
 jdwp_layout | read found only fault hides; write ok err; validate accepted fault memory; encodes_one_list | Data of any layout are read, written and judged, the first fault told; want of memory hides none, and judging takes none
-jdwp_show | check yes no; show begins fault lines | `check` and `show` name exactly the first fault of a capture and its line; the lines are those of the definitions
+jdwp_judge | check yes no; show begins fault lines | `check` and `show` name exactly the first fault of a capture and its line; the lines are those of the definitions
 jdwp_show | finds_each_message; stands_in_its_line; tells_widths_first; waits_where_it_stands | To these they are tied: each message once, in its line; which widths hold; which command waits
-jdwp_judge | Judge::feed heard told; Judge::end lines fault; Judge::held; says_what_show_says | What is told of a session that goes on is a beginning of what `show` says of it, and all that is sure; what is kept is what waits
+jdwp_judge | Judge::feed heard told; Judge::end lines fault; Judge::held; CaptureJudge::feed told; CaptureJudge::end lines fault | What is told of a session that goes on, or of a capture that is read, is a beginning of what `show` says of it, and all that is sure; what is kept is what waits
 jdwp_draw | Picture::read rows whole fault; svg | A drawing has an arrow for each message that `show` prints, in order, and beside it what a debugger's mirror has behind it
 jdwp_answer | Reply::read found only fault; Reply::of_data; LineTable::line_at | A reply is a struct exactly where it is in its layout; the line of a code index
 jdwp_event_fields | EventSet::of_composite value; read_composites_have_events | A composite that was read is events by kind that say the same, or its policy is none
@@ -127,7 +127,7 @@ jdwp_attach | attach_by_lines in_order ended last_flush line | The same of a deb
 jdwp_attach | mirror_text; known_text; answered_line; seen_line | Lines are those of `show`; a mirror is told by its threads, then its requests; in `Order::Apart` each thread that was named, by what is sure
 jdwp_engine | serve_session served; serve_script fault untouched | A new target's session, from what was read to what was written; a script's fault with nothing touched
 jdwp_port | serve_sessions serves closed; serve_stream served; attach_stream ran | Sessions at a port are those of `serve` and `attach`, one after the other with one target
-jdwp_program | check_capture tells leaves; show_capture tells leaves; attach_session ran; Outcome::of_session; Fault::status status; limits | What the writer took is the verdict, or the lines and the fault, or a beginning. How a session's end is told, with which status; numbers of the command line
+jdwp_program | check_capture tells leaves; show_capture tells leaves; show_stream; check_stream; attach_session ran; Outcome::of_session; Fault::status status; limits | What the writer took is the verdict, or the lines and the fault, or a beginning, also while it is read. How a session's end is told, with which status
 jdwp_words | read runs keeps | Words run a plan only for `attach` or `pair`, and write to no file that they read, by name
 jdwp_partner | Partner::session | A `Partner` (`pair` by a plan in words) is fed what is written while its session is open, and what is read is what it put, in order
 jdwp_files | run bound leaves | The status says what is on standard output, but for `attach` and `pair`
@@ -148,8 +148,6 @@ TAIL = """\
 - Peers that keep no rule: each fault at both ends; a session with each byte changed to each value; data cut at each byte; texts a million deep.
 - Each request for memory refused in turn, of each call (`link_tests`) and command (`bench/refused_memory.py`); that want of memory comes only then, which no contract can say.
 - Sockets, clocks and files: what goes through them, a recorder's too, options, closing, which errors pass; the forms of recordings; that no file that is read is emptied under another name.
-
-[README](../README.md#what-is-proved) has what is neither, and what is trusted.
 """
 
 BLOCK = re.compile(r"(?:pub(?:\([^)]*\))? )?(trait|impl)\b(?:<.*?>(?= ))?\s*(.*)")
