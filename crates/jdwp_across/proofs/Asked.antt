@@ -7,12 +7,12 @@ use Rattle.jdwp_end.specs.declared.phase.Phase.TheVariants.{Closed, AwaitingHand
 use Rattle.jdwp_wire.specs.Widths.{Widths}
 use Rattle.jdwp_event.specs.Composites.{CompositeMeaning}
 use Rattle.jdwp_layout.specs.declared.answer.Answer.{Answer}
-use Rattle.jdwp_layout.specs.CommandNumbers.{CommandNumber, is_command}
+use Rattle.jdwp_layout.specs.CommandNumbers.{CommandNumber, is_command, CLASS_INVOKE, INTERFACE_INVOKE, NEW_INSTANCE, OBJECT_INVOKE}
 use Rattle.jdwp_machine.specs.Meanings.{Meaning}
 use Rattle.jdwp_action.specs.Actions.{Command, is_implemented}
 use Rattle.jdwp_apart.specs.Following.{Following, answered_by, answered_to, before_thread, invocation_by, made_by, put_by, put_to, reported, reported_to, with_made}
 use Rattle.jdwp_action.specs.Actions.{action_of}
-use Rattle.jdwp_apart.specs.Messages.{INVOKE_INTERFACE, INVOKE_STATIC, INVOKE_VIRTUAL, Invocation, NEW_INSTANCE, is_invocation, may_ask}
+use Rattle.jdwp_apart.specs.Messages.{Invocation, is_invocation, may_ask}
 use Rattle.jdwp_apart.specs.Watch.{Watch, asks, reads_reply}
 use Rattle.jdwp_apart.specs.World.{reply_of}
 use Rattle.jdwp_debuggee.specs.Effects.{Effect, effect}
@@ -171,8 +171,8 @@ none-of-four false false false d ha hb hc hd = hd
 pub invokes-none : (c : Command) → may_ask c ≡ true → is_invocation c ≡ false
 invokes-none c h =
     let carried = (both (is_implemented c) _ h).0 in
-    none-of-four (is_command INVOKE_STATIC c.set c.number) (is_command NEW_INSTANCE c.set c.number) (is_command INVOKE_INTERFACE c.set c.number) (is_command INVOKE_VIRTUAL c.set c.number)
-    (none-carried c INVOKE_STATIC refl carried) (none-carried c NEW_INSTANCE refl carried) (none-carried c INVOKE_INTERFACE refl carried) (none-carried c INVOKE_VIRTUAL refl carried)
+    none-of-four (is_command CLASS_INVOKE c.set c.number) (is_command NEW_INSTANCE c.set c.number) (is_command INTERFACE_INVOKE c.set c.number) (is_command OBJECT_INVOKE c.set c.number)
+    (none-carried c CLASS_INVOKE refl carried) (none-carried c NEW_INSTANCE refl carried) (none-carried c INTERFACE_INVOKE refl carried) (none-carried c OBJECT_INVOKE refl carried)
 
 -- ---- what is followed
 

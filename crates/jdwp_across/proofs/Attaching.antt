@@ -28,7 +28,7 @@ use Rattle.jdwp_attach.proofs.Turned.{fault-refused, memory-same}
 use Rattle.jdwp_across.specs.Programs.{Act, ComesToDebugger, DebuggerAsks, DebuggerLoses, DebuggerTurns, LeavesDebugger, lost_with, settled}
 use Rattle.jdwp_across.specs.Acting.{DebuggerDoes, DebuggerRuns, Move, bytes_of, from_debugger, to_debugger}
 use Rattle.jdwp_across.specs.Running as running
-use Rattle.jdwp_across.specs.Running.{DebuggerActs, IsAs, RefusesNext}
+use Rattle.jdwp_across.specs.Running.{DebuggerActs, IsAs}
 use Rattle.jdwp_across.proofs.Moving.{bytes-on, leads-all, leads-one}
 use Rattle.jdwp_across.proofs.Turning.{Stays as SessionStays, asks-open, none-comes, none-fails, none-in-front, none-turns, turn-stays}
 

@@ -1,7 +1,7 @@
 -- neither end refuses what the other sent: a turn that fails wants memory
 use Rattle.std.proofs.Common.{◌≡◌, ℕ, inl, inr, None, false, cond, List, [], ◌++◌, length, Err, refl, sym, ◌∙◌, ap, subst}
 use Rattle.jdwp_wire.specs.Streams as streams
-use Rattle.jdwp_wire.specs.Streams.{More, Whole}
+use Rattle.jdwp_wire.specs.Streams.{More}
 use Rattle.jdwp_wire.specs.Widths.{Widths}
 use Rattle.jdwp_wire.specs.declared.packet.Header.{Header}
 use Rattle.jdwp_end.specs.Ends.{front_of, is_paused, next_of}

@@ -19,7 +19,7 @@ use Rattle.jdwp_debuggee.specs.Deferring.{released_at}
 use Rattle.jdwp_mirror.specs.Messages.{LAST_TICKET, Ticket, Call, Greets, Asks, Handshake, Reply, Report}
 use Rattle.jdwp_mirror.specs.Faults.{fault_of}
 use Rattle.jdwp_model.specs.Events as events
-use Rattle.jdwp_model.specs.Events.{LinkEvent, Outcome}
+use Rattle.jdwp_model.specs.Events.{Outcome}
 use Rattle.jdwp_model.specs.Measures.{measured, unfit}
 use Rattle.jdwp_model.specs.Next.{ask_refusal, dies_by, answers, carries_out, defers, defers_or, greets_by, target_takes, target_handles, target_front, target_turn, target_turn_at, whole_call, release_front, releases, releases_at, closes_by, reads, reads_reply, reads_composite, reader, debugger_handles, debugger_takes, debugger_front, debugger_turn, debugger_turn_at, whole_packet, with_report, step_ends, stepped, steps, steps_now}
 use Rattle.jdwp_model.specs.World.{Measure, Packet, World, is_closed, calls_size, packets_size, way_to_target, way_to_debugger}

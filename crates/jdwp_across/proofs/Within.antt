@@ -16,7 +16,7 @@ use Rattle.jdwp_target.specs.Targets.{Target}
 use Rattle.jdwp_target.specs.Turns.{deferred_at, is_frozen}
 use Rattle.jdwp_debugger.specs.Asking.{HasAsked, refusal_of_ask}
 use Rattle.jdwp_debugger.specs.Debuggers as debuggers
-use Rattle.jdwp_debugger.specs.Debuggers.{Debugger, new_debugger}
+use Rattle.jdwp_debugger.specs.Debuggers.{Debugger}
 use Rattle.jdwp_debugger.specs.DebuggerTurns as turns
 use Rattle.jdwp_debugger.specs.DebuggerTurns.{read_meaning}
 use Rattle.jdwp_debugger.specs.declared.faults.DebuggerFault.{DebuggerFault}

@@ -37,7 +37,6 @@ use Rattle.jdwp_target.specs.declared.target.Turn.TheVariants as turning
 use Rattle.jdwp_target.proofs.Encoded.{start-encoded}
 use Rattle.jdwp_debugger.specs.Asking.{EncodesCommand, asked, command_header}
 use Rattle.jdwp_debugger.specs.Debuggers as debuggers
-use Rattle.jdwp_debugger.specs.Debuggers.{AreDistinct, AreOwn, Asked, Begins, Debugger, IsSizesAlone}
 use Rattle.jdwp_debugger.specs.DebuggerTurns as turns
 use Rattle.jdwp_debugger.specs.DebuggerTurns.{Sizes, read_meaning}
 use Rattle.jdwp_debugger.specs.News.{Answers, Happens, Measures, Waits}

@@ -57,7 +57,7 @@ pub data Action : Type 0 where
   AskThread : ℕ → Action
   AllThreads : Action
   IdSizes : Action
-  -- any other, which changes nothing
+  -- any other: the machine is asked, and no more than a string may come of it
   Ask : Action
 
 -- a slot and its value

@@ -1,12 +1,12 @@
 -- Booleans that are read one after the other.
-use Rattle.std.proofs.Common.{◌≡◌, ◌≢◌, ◌∙◌, ℕ, ◌+◌, ◌<◌, ◌≤◌, Bool, false, List, [], ◌∷◌, refl, zero, suc, length, map, replicate, get_or, set, inl, inr, sym, ap, subst, arith}
+use Rattle.std.proofs.Common.{◌≡◌, ◌≢◌, ◌∙◌, ℕ, ◌+◌, ◌<◌, ◌≤◌, Bool, false, List, [], ◌∷◌, refl, zero, suc, length, map, replicate, get_or, set, inl, inr, sym, ap, arith}
 use Rattle.std.proofs.lemmas.Bool.{cases_eq}
 use Rattle.std.proofs.lemmas.List.{ext_get_or, get_or-map, get_or-set_same, get_or-set_other, get_or-replicate, length-map, length-replicate, length-set}
 use Rattle.jdwp_layout.specs.declared.datum.Scalar.{Scalar}
 use Rattle.jdwp_layout.specs.declared.item.Field.{Field}
 use Rattle.jdwp_layout.specs.declared.item.Field.TheVariants as held
 use Rattle.jdwp_layout.specs.Grammar.{kind_of}
-use Rattle.jdwp_layout.specs.Meanings.{ScalarMeaning, Boolean, scalar_meaning, scalar_meanings}
+use Rattle.jdwp_layout.specs.Meanings.{Boolean, scalar_meaning, scalar_meanings}
 use Rattle.jdwp_answer.specs.Shaped.{HasFields, booleans}
 
 -- those in front of this place are those of the values

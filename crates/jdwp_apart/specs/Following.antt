@@ -5,14 +5,14 @@ use Rattle.std.specs.Ordering.{int_eq}
 use Rattle.jdwp_wire.specs.declared.data_fault.DataFault.{DataFault}
 use Rattle.jdwp_wire.specs.Numbers.{number_at}
 use Rattle.jdwp_wire.specs.Widths.{Widths}
-use Rattle.jdwp_layout.specs.CommandNumbers.{is_command}
+use Rattle.jdwp_layout.specs.CommandNumbers.{is_command, OBJECT_INVOKE}
 use Rattle.jdwp_layout.specs.Meanings.{ScalarMeaning, Byte, Int, One}
 use Rattle.jdwp_layout.specs.declared.answer.Answer.{Answer}
 use Rattle.jdwp_layout.specs.declared.answer.Answer.TheVariants.{Data}
 use Rattle.jdwp_event.specs.Composites.{CompositeMeaning}
 use Rattle.jdwp_action.specs.Actions
 use Rattle.jdwp_action.specs.Actions.{Command, Carried, Action, action_of}
-use Rattle.jdwp_apart.specs.Messages.{Invocation, ByThread, ByAll, INVOKE_VIRTUAL, is_invocation, may_ask}
+use Rattle.jdwp_apart.specs.Messages.{Invocation, ByThread, ByAll, is_invocation, may_ask}
 use Rattle.jdwp_apart.specs.Watch.{Watch, asks, invokes, returns_from, reads_reply, reads_composite, start}
 
 -- Its watch; and the requests that were made since a composite was read last, each with the ticket of its EventRequest.Set, the newest last. A
@@ -42,7 +42,7 @@ by_thread single found = ByAll
 
 -- The thread stands behind the id of an object, or of a reference type.
 abbrev pub before_thread : Widths → Command → ℕ
-before_thread w c = if is_command INVOKE_VIRTUAL c.set c.number then w.object else w.reference
+before_thread w c = if is_command OBJECT_INVOKE c.set c.number then w.object else w.reference
 
 abbrev pub invocation_by : ℕ → ℕ → Carried → Invocation
 invocation_by front width (Actions.Raw bytes) = by_thread (is_single bytes) (number_at width (length bytes) (drop front bytes))

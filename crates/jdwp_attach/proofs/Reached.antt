@@ -1,5 +1,5 @@
 -- What calls lead to.
-use Rattle.std.proofs.Common.{◌≡◌, ◌∙◌, ℕ, ◌≤◌, ◌+◌, ◌++◌, ◌∷◌, List, [], length, true, Option, Some, None, Result, Ok, Err, inl, inr, refl, sym, ap, subst}
+use Rattle.std.proofs.Common.{◌≡◌, ◌∙◌, ℕ, ◌≤◌, ◌+◌, ◌++◌, ◌∷◌, List, [], length, true, Option, Some, None, Result, Ok, inl, inr, refl, sym, ap, subst}
 use Rattle.std.specs.Prelude.{map}
 use Rattle.std.proofs.lemmas.List.{append-nil, map-append}
 use Rattle.jdwp_end.specs.Ends.{front_of, is_open, room_of}

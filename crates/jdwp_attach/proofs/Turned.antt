@@ -21,7 +21,7 @@ use Rattle.jdwp_debugger.specs.declared.pending.Ticket.{Ticket}
 use Rattle.jdwp_debugger.specs.declared.turning.Read.{Read}
 use Rattle.jdwp_debugger.specs.declared.turning.Read.TheVariants as read
 use Rattle.jdwp_debugger.specs.Debuggers.{Asked, Debugger, Parked as Waiting}
-use Rattle.jdwp_debugger.specs.DebuggerTurns.{Enters, HandlesAt, ReadsAt, Told, TurnsAt, closed_debugger, closed_where, command_at, command_of, greeted, measured_where, reading_of, refused, reports, sizes_header, read_meaning}
+use Rattle.jdwp_debugger.specs.DebuggerTurns.{Enters, HandlesAt, Told, TurnsAt, closed_where, command_at, command_of, greeted, measured_where, reading_of, refused, reports, sizes_header, read_meaning}
 use Rattle.jdwp_debugger.specs.DebuggerTurns as tell
 use Rattle.jdwp_mirror.specs.Messages.{Reply, Report}
 use Rattle.jdwp_mirror.specs.Mirror.{ends}

@@ -27,7 +27,7 @@ use Rattle.jdwp_client.specs.declared.errors.ClientError.{ClientError}
 use Rattle.jdwp_client.specs.declared.errors.ClientError.TheVariants as error
 use Rattle.jdwp_client.specs.declared.errors.Loss.TheVariants.{ByRead, ByWrite}
 use Rattle.jdwp_client.specs.Clients as clients
-use Rattle.jdwp_client.specs.Clients.{AsksFor, Client, EndsWait, Enqueues, FailsToAsk, FailsToSend, FailsToWait, GivesAnswer, GoesOn, IsTurned, KeepsTold, LosesByWrite, Puts, PutsPart, ReadsOnce, Sends, Stops, WaitsIn, WaitsNot, WaitsTo, Begins, Writes, Turns, Reads, answers_told, asked_under, composites_told, ended, lacks_answer, lacks_event, lacks_events, lacks_sizes, ended_where, failed_by, moved, settled, with_told}
+use Rattle.jdwp_client.specs.Clients.{AsksFor, Client, EndsWait, Enqueues, FailsToAsk, FailsToSend, FailsToWait, GivesAnswer, GoesOn, IsTurned, KeepsTold, LosesByWrite, Puts, PutsPart, ReadsOnce, Sends, Stops, WaitsIn, WaitsNot, WaitsTo, Begins, Writes, Turns, Reads, asked_under, ended, lacks_answer, lacks_event, lacks_events, lacks_sizes, ended_where, failed_by, moved, settled, with_told}
 use Rattle.jdwp_client.specs.Keeping.{answers_in, composites_in, is_full, is_under}
 use Rattle.jdwp_client.specs.Turning.{FailsKept, TurnsKept, unread}
 

@@ -27,7 +27,7 @@ use Rattle.jdwp_client.specs.declared.errors.ClientError.{ClientError}
 use Rattle.jdwp_client.specs.declared.errors.ClientError.TheVariants as error
 use Rattle.jdwp_client.specs.declared.errors.Loss.TheVariants.{ByRead, ByWrite}
 use Rattle.jdwp_client.specs.Clients as clients
-use Rattle.jdwp_client.specs.Clients.{Client, FailsToSend, IsLimited, Puts, Sends, StepFails, Begins, Writes, Turns, Reads, asked_under, ended, ended_where, lacks_answer, moved, settled, with_answers, with_told}
+use Rattle.jdwp_client.specs.Clients.{Client, FailsToSend, IsLimited, Puts, Sends, StepFails, Begins, Writes, Turns, Reads, asked_under, ended, ended_where, lacks_answer, moved, with_answers, with_told}
 use Rattle.jdwp_client.specs.Keeping.{HandsOut, answers_in, is_under}
 use Rattle.jdwp_client.specs.Tickets.{AreGiven, IsGiven, KeepsGiven}
 use Rattle.jdwp_client.proofs.Lists.{all-append, all-at, all-mono, all-remove, none-passes}

@@ -24,7 +24,7 @@ use Rattle.jdwp_debuggee.specs.Refusals.{set_refusal}
 use Rattle.jdwp_debuggee.specs.Strings.{makes_string, text_in}
 use Rattle.jdwp_debuggee.specs.Effects.{Effect, asks_by, string_made, effect, effect_by, does, answered, refused, changes, suspend_by, suspend_thread_by, suspend_thread_at, resume_thread_by, slots_by, slots_at, set_by, answer_count, answer_status, answer_frames, answer_thread}
 use Rattle.jdwp_debuggee.specs.Invoking.{answer_asked}
-use Rattle.jdwp_machine.specs.Invocations.{invocation_request}
+use Rattle.jdwp_layout.specs.Invocations.{invocation_request}
 use Rattle.jdwp_debuggee.specs.Breadth.{is_plain}
 use Rattle.jdwp_debuggee.specs.Facts.{AreBelow, IsSound, moved_by, requests_by, Says, OfThread, Does, is_not_asked, is_no_asked_breakpoint}
 use Rattle.jdwp_debuggee.proofs.Small.{and-true, and-false, some-same, asked-append, asked-filter, below-filter, below-more}

@@ -8,12 +8,12 @@ use Rattle.jdwp_wire.specs.declared.data_fault.DataFault.{DataFault}
 use Rattle.jdwp_layout.specs.declared.answer.Answer.{Answer}
 use Rattle.jdwp_layout.specs.declared.answer.Answer.TheVariants.{Data, Error}
 use Rattle.jdwp_layout.specs.declared.item.Field.TheVariants as field
-use Rattle.jdwp_layout.specs.CommandNumbers.{CommandNumber}
+use Rattle.jdwp_layout.specs.CommandNumbers.{CommandNumber, CLASS_INVOKE, INTERFACE_INVOKE, OBJECT_INVOKE}
 use Rattle.jdwp_layout.specs.Meanings.{DatumMeaning, ScalarMeaning, Object, One, raw_bytes}
 use Rattle.jdwp_layout.specs.Reads.{data_at, field_at, item_at, items_at}
 use Rattle.jdwp_layout.specs.Shapes.{Fields, ItemShape, ListOf, OneOf}
 use Rattle.jdwp_machine.specs.declared.query.Query.{Query}
-use Rattle.jdwp_machine.specs.Invocations.{CLASS_INVOKE, INTERFACE_INVOKE, OBJECT_INVOKE, invocation_request, is_there, of_object, of_type}
+use Rattle.jdwp_layout.specs.Invocations.{invocation_request, is_there, of_object, of_type}
 use Rattle.jdwp_machine.specs.Laws.{IsLawful, MayAnswer}
 use Rattle.jdwp_machine.specs.Meanings.{Meaning, has}
 use Rattle.jdwp_action.specs.Actions.{action_of}

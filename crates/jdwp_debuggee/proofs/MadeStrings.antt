@@ -1,15 +1,14 @@
 -- A string that is made, as its id is sent.
-use Rattle.std.proofs.Common.{◌≡◌, ℕ, ◌+◌, ◌≤◌, ◌==◌, ◌&&◌, Bool, true, false, length, List, Some, Result, Ok, Err, refl, sym, ◌∙◌, ap, subst, arith}
+use Rattle.std.proofs.Common.{◌≡◌, ℕ, ◌+◌, ◌≤◌, ◌==◌, ◌&&◌, Bool, true, length, Some, Result, Ok, Err, refl, sym, ◌∙◌, ap, subst, arith}
 use Rattle.std.proofs.lemmas.Bool.{eqb-true}
 use Rattle.byteorder.specs.Numbers.{length-bytes_high_first}
-use Rattle.std.specs.Prelude.{IfErr, IfOk, OnOk}
+use Rattle.std.specs.Prelude.{IfOk, OnOk}
 use Rattle.jdwp_value.specs.declared.id.ObjectId.{ObjectId}
 use Rattle.jdwp_wire.specs.Limits.{least_packet_limit}
-use Rattle.jdwp_layout.specs.CommandNumbers.{is_command}
+use Rattle.jdwp_layout.specs.CommandNumbers.{is_command, CREATE_STRING}
 use Rattle.jdwp_layout.specs.CommandTable.{row_at}
 use Rattle.jdwp_machine.specs.Laws.{IsLawful}
 use Rattle.jdwp_machine.specs.Meanings.{Meaning}
-use Rattle.jdwp_machine.specs.Profiles.{CREATE_STRING}
 use Rattle.jdwp_machine.specs.declared.query.Query.{Query}
 use Rattle.jdwp_action.specs.Actions as action
 use Rattle.jdwp_action.specs.Actions.{Action, Command, action_of}

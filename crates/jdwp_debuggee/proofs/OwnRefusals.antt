@@ -21,7 +21,7 @@ use Rattle.jdwp_event.specs.Modifiers.{ModifierMeaning, modifiers_of}
 use Rattle.jdwp_machine.specs.declared.query.Query.{Query}
 use Rattle.jdwp_machine.specs.Meanings.{Meaning}
 use Rattle.jdwp_action.specs.Actions
-use Rattle.jdwp_action.specs.Actions.{Action, Carried, Command, Content, action_by, action_of, clear_action, first_object, other_action, set_action, slots_of, thread_action, thread_of}
+use Rattle.jdwp_action.specs.Actions.{Action, Carried, Command, Content, action_by, action_of, clear_action, first_object, other_action, slots_of, thread_action, thread_of}
 use Rattle.jdwp_action.specs.CommandReads.{command_read, content_read, with_content}
 use Rattle.jdwp_action.specs.RowLayouts.{row_request}
 use Rattle.jdwp_debuggee.specs.Answers.{bounded, query_of}

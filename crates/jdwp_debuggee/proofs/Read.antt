@@ -13,7 +13,7 @@ use Rattle.jdwp_wire.specs.declared.data_fault.DataFault.{DataFault}
 use Rattle.jdwp_wire.specs.declared.no_memory.NoMemory.{NoMemory}
 use Rattle.jdwp_wire.specs.declared.error_code.ErrorCode.{ErrorCode}
 use Rattle.jdwp_wire.specs.Widths.{Widths}
-use Rattle.jdwp_layout.specs.CommandNumbers.{CommandNumber, is_command, SUSPEND, RESUME, HOLD_EVENTS, RELEASE_EVENTS, ID_SIZES, DISPOSE, CLEAR_ALL_BREAKPOINTS, SUSPEND_THREAD, RESUME_THREAD, THREAD_STATUS, SUSPEND_COUNT, CLEAR_REQUEST}
+use Rattle.jdwp_layout.specs.CommandNumbers.{CommandNumber, is_command, SUSPEND, RESUME, HOLD_EVENTS, RELEASE_EVENTS, ID_SIZES, DISPOSE, CLEAR_ALL_BREAKPOINTS, SUSPEND_THREAD, RESUME_THREAD, THREAD_STATUS, SUSPEND_COUNT, CLEAR_REQUEST, CLASS_INVOKE, CLASS_PATHS, INTERFACE_INVOKE, OBJECT_INVOKE}
 use Rattle.jdwp_layout.specs.CommandTable.{row_at}
 use Rattle.jdwp_layout.specs.Meanings.{ScalarMeaning, DatumMeaning, Raw, entry_meaning, entry_meanings}
 use Rattle.jdwp_layout.specs.Reads.{data_at}
@@ -25,8 +25,8 @@ use Rattle.jdwp_action.specs.RowLayouts.{row_request}
 use Rattle.jdwp_debuggee.specs.Askings.{Asking, asked_meaning, asks, asking_of, carries_nothing, carries_thread, is_short}
 use Rattle.jdwp_machine.specs.declared.profile.Profile.{Profile}
 use Rattle.jdwp_machine.specs.declared.profile.Profile.TheVariants.{Standard, Jdi}
-use Rattle.jdwp_machine.specs.Invocations.{CLASS_INVOKE, INTERFACE_INVOKE, OBJECT_INVOKE, is_invocation, is_there, of_object, of_type}
-use Rattle.jdwp_machine.specs.Profiles.{CLASS_PATHS, adds_raw}
+use Rattle.jdwp_layout.specs.Invocations.{is_invocation, is_there, of_object, of_type}
+use Rattle.jdwp_machine.specs.Profiles.{adds_raw}
 use Rattle.jdwp_debuggee.specs.Answering.{is_read, read_as, unread_as, with_bytes}
 use Rattle.jdwp_debuggee.specs.ReadParts.{IsBare, answered_request, unread}
 

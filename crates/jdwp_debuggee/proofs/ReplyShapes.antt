@@ -8,7 +8,7 @@ use Rattle.jdwp_layout.specs.CommandTable.{row_at}
 use Rattle.jdwp_layout.specs.Meanings.{Byte, Int, Object, Frame, One, Many}
 use Rattle.jdwp_layout.specs.Shapes.{ItemShape, Fields, OneOf, ListOf}
 use Rattle.jdwp_action.specs.Actions
-use Rattle.jdwp_action.specs.Actions.{Carried, Content, Raw, Command, Action, action_of, action_by, thread_of, thread_action, slots_of, set_action, clear_action, other_action}
+use Rattle.jdwp_action.specs.Actions.{Carried, Content, Command, Action, action_of, action_by, thread_of, thread_action, slots_of, set_action, clear_action, other_action}
 use Rattle.jdwp_action.specs.RowLayouts.{row_reply}
 
 -- what the replies to commands of the debuggee's own hold; others are the machine's to answer

@@ -18,7 +18,7 @@ use Rattle.jdwp_debuggee.specs.Sending.{sent_short}
 use Rattle.jdwp_debuggee.specs.Wants.{ReadsData}
 use Rattle.jdwp_debuggee.specs.declared.command.ParsedCommand.{ParsedCommand}
 use Rattle.jdwp_debuggee.specs.declared.reply.Reply.{Reply}
-use Rattle.jdwp_machine.specs.Invocations.{is_invocation}
+use Rattle.jdwp_layout.specs.Invocations.{is_invocation}
 use Rattle.jdwp_machine.specs.Profiles.{adds_raw}
 use Rattle.jdwp_debuggee.proofs.Read.{raw_reads, read_is}
 

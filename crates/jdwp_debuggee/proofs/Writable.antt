@@ -1,5 +1,5 @@
 -- answers to questions, and slots that were written
-use Rattle.std.proofs.Common.{◌≡◌, ℕ, Bool, Option, Some, None, List, [], ◌∷◌, ◌+◌, ◌≤◌, length, refl, ◌∙◌, ap, sym, subst, arith, true, false}
+use Rattle.std.proofs.Common.{◌≡◌, ℕ, Option, Some, None, List, [], ◌∷◌, ◌+◌, ◌≤◌, length, refl, ◌∙◌, ap, sym, subst, arith}
 use Rattle.jdwp_layout.specs.declared.answer.Answer.{Answer}
 use Rattle.jdwp_layout.specs.declared.answer.Answer.TheVariants.{Data, Error}
 use Rattle.jdwp_layout.specs.CommandTable.{row_at}
@@ -18,17 +18,14 @@ use Rattle.jdwp_action.specs.Actions.{Action, Command, action_of}
 use Rattle.jdwp_debuggee.specs.Debuggees.{CarriesOut, Debuggee, at_moment, visiting}
 use Rattle.jdwp_debuggee.specs.Askings.{Asking, asking_of, question_by}
 use Rattle.jdwp_debuggee.specs.Visits.{visits_carried}
-use Rattle.jdwp_debuggee.specs.Effects.{Effect, answered, asks_by, carried, does}
-use Rattle.jdwp_debuggee.specs.Strings.{makes_string}
-use Rattle.jdwp_debuggee.specs.Invoking.{answer_asked}
-use Rattle.jdwp_machine.specs.Invocations.{invocation_request}
+use Rattle.jdwp_debuggee.specs.Effects.{answered, carried, does}
 use Rattle.jdwp_debuggee.specs.State.{Moment}
 use Rattle.jdwp_machine.specs.declared.query.Query.{Query}
 use Rattle.jdwp_debuggee.specs.declared.reply.Sent.{Sent}
 use Rattle.jdwp_debuggee.specs.Replies.{reply_meaning}
-use Rattle.jdwp_action.specs.AnswerPackets.{AreWritable, EncodesAnswer, IsWritable, answer_bytes, error_of}
+use Rattle.jdwp_action.specs.AnswerPackets.{AreWritable, IsWritable, answer_bytes, error_of}
 use Rattle.jdwp_action.specs.RowLayouts.{row_reply, shapes_reply}
-use Rattle.jdwp_debuggee.specs.Sending.{Did, IsSent, is_question, sent_bytes, sent_short}
+use Rattle.jdwp_debuggee.specs.Sending.{Did, IsSent, sent_bytes, sent_short}
 use Rattle.jdwp_debuggee.specs.declared.reply.Reply.{Reply}
 use Rattle.jdwp_debuggee.specs.declared.reply.Reply.TheVariants as reply
 use Rattle.jdwp_debuggee.specs.declared.reply.Sent.TheVariants as sent
@@ -124,39 +121,6 @@ frames-did m d t q (Ok x) v f = λ c e.
     let is : action.AskFrames t ≡ action_of c = ap (λ (y : Asking). y.action) e in
     let same = same-question (action.AskFrames t) (action_of c) q (query_of c) is refl (ap (λ (y : Asking). y.question) e) in
     ask-did m c (action.AskFrames t) d x is refl refl (v c same) f
-
--- a question for the machine, which makes no string
-asked-of : {S : Type 0} (m : Meaning S) (d : Debuggee S) (c : Command) (q : Query) → query_of c ≡ q → makes_string q ≡ false
-    → carried m d.settings d.moment c action.Ask ≡ answered d.moment (answer_asked m d.settings d.moment q (invocation_request q.set q.number))
-asked-of m d c q same off =
-    ap (λ (b : Bool). asks_by m d.settings d.moment c b) (ap makes_string same ∙ off)
-    ∙ ap (λ (y : Query). answered d.moment (answer_asked m d.settings d.moment y (invocation_request y.set y.number))) same
-
--- a question for the machine was answered
-pub machine-did : {S E : Type 0} (m : Meaning S) (d : Debuggee S) (q : Query) (r : Result Sent E) → makes_string q ≡ false
-    → IfOk r (λ x. IsSent (m.sizes d.moment.machine) (answer_asked m d.settings d.moment q (invocation_request q.set q.number)) x)
-    → IfOk r (λ x. least_packet_limit ≤ d.settings.limits.packet → 11 + length (sent_bytes (m.sizes d.moment.machine) x) ≤ d.settings.limits.packet)
-    → IfOk r (λ x. (c : Command) → record { action = action.Ask; question = Some q } ≡ asking_of c → Did m c d d x)
-machine-did m d q (Err e) off v f = tt
-machine-did {S = S} m d q (Ok x) off v f = λ c e.
-    let is : action.Ask ≡ action_of c = ap (λ (y : Asking). y.action) e in
-    let same = same-question action.Ask (action_of c) q (query_of c) is refl (ap (λ (y : Asking). y.question) e) in
-    let of = asked-of m d c q same off in
-    ask-did m c action.Ask d x is (ap (λ (y : Effect S). y.after) of) refl (subst (λ (y : Effect S). IsSent (m.sizes d.moment.machine) y.answer x) (sym of) v) f
-
--- what is answered is encoded
-pub machine-told : {S X E : Type 0} (m : Meaning S) (d : Debuggee S) (q : Query) (r : Result X E) → makes_string q ≡ false
-    → IfOk r (λ _. EncodesAnswer (m.sizes d.moment.machine) q.set q.number (answer_asked m d.settings d.moment q (invocation_request q.set q.number)))
-    → IfOk r (λ _. (c : Command) → record { action = action.Ask; question = Some q } ≡ asking_of c → is_question (action_of c) ≡ true
-    → EncodesAnswer (m.sizes d.moment.machine) c.set c.number (carried m d.settings d.moment c (action_of c)).answer)
-machine-told m d q (Err e) off h = tt
-machine-told {S = S} m d q (Ok x) off h = λ c e asks.
-    let is : action.Ask ≡ action_of c = ap (λ (y : Asking). y.action) e in
-    let same = same-question action.Ask (action_of c) q (query_of c) is refl (ap (λ (y : Asking). y.question) e) in
-    let told : EncodesAnswer (m.sizes d.moment.machine) c.set c.number (carried m d.settings d.moment c action.Ask).answer =
-    subst (λ (y : Effect S). EncodesAnswer (m.sizes d.moment.machine) c.set c.number y.answer) (sym (asked-of m d c q same off))
-    (subst (λ (y : Query). EncodesAnswer (m.sizes d.moment.machine) y.set y.number (answer_asked m d.settings d.moment q (invocation_request q.set q.number))) (sym same) h) in
-    subst (λ (a : Action). EncodesAnswer (m.sizes d.moment.machine) c.set c.number (carried m d.settings d.moment c a).answer) is told
 
 -- another question about a thread was answered
 pub thread-did : {S E : Type 0} (m : Meaning S) (d : Debuggee S) (t : ℕ) (q : Query) (r : Result Sent E)

@@ -11,7 +11,7 @@ use Rattle.jdwp_layout.specs.Meanings as meaning
 use Rattle.jdwp_layout.specs.Meanings.{Int, Object, DatumMeaning, One, Many}
 use Rattle.jdwp_layout.specs.Writes.{data_canonical}
 use Rattle.jdwp_machine.specs.declared.query.Query.{Query}
-use Rattle.jdwp_machine.specs.Invocations.{is_invocation}
+use Rattle.jdwp_layout.specs.Invocations.{is_invocation}
 use Rattle.jdwp_machine.specs.Meanings.{Meaning}
 use Rattle.jdwp_debuggee.specs.Settings.{Settings}
 use Rattle.jdwp_debuggee.specs.State.{State, Thread, count_in, ids}

@@ -8,7 +8,7 @@ use Rattle.jdwp_layout.specs.declared.answer.Answer.TheVariants.{Error}
 use Rattle.jdwp_event.specs.Modifiers.{ModifierMeaning, Step, modifiers_of}
 use Rattle.jdwp_event.specs.RequestLists as lists
 use Rattle.jdwp_event.specs.Requests.{AskedRequest, Origin, Request, new_request}
-use Rattle.jdwp_machine.specs.Invocations.{invocation_request}
+use Rattle.jdwp_layout.specs.Invocations.{invocation_request}
 use Rattle.jdwp_machine.specs.Meanings.{Meaning}
 use Rattle.jdwp_debuggee.specs.Settings.{Settings}
 use Rattle.jdwp_debuggee.specs.State.{State, Moment, count_of, with_counts, raised, lowered, only, at_limit, reset, restopped, dead}

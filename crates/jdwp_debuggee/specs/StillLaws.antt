@@ -4,7 +4,7 @@ use Rattle.std.proofs.lemmas.Bool.{cases_Bool}
 use Rattle.std.proofs.lemmas.Grind.{common_steps}
 use Rattle.std.specs.List.{list_any}
 use Rattle.jdwp_debuggee.specs.Settings.{Settings}
-use Rattle.jdwp_debuggee.specs.State.{Moment, Thread, State, count_in, count_of, at_limit}
+use Rattle.jdwp_debuggee.specs.State.{Moment, Thread, count_in, count_of, at_limit}
 use Rattle.jdwp_debuggee.specs.StepParts.{is_still}
 use Rattle.jdwp_debuggee.specs.Steps.{is_zero, is_full, may_step}
 use Rattle.jdwp_machine.specs.Meanings.{Meaning}

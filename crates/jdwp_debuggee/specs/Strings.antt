@@ -1,8 +1,7 @@
 -- VirtualMachine.CreateString: the one command that asks the machine and changes it (JDWP specification, "VirtualMachine": CreateString).
 use Rattle.std.specs.Prelude.{ℕ, Bool, List, [], ◌∷◌, Option, Some, None}
-use Rattle.jdwp_layout.specs.CommandNumbers.{is_command}
+use Rattle.jdwp_layout.specs.CommandNumbers.{is_command, CREATE_STRING}
 use Rattle.jdwp_layout.specs.Meanings.{DatumMeaning, Object, One, Text}
-use Rattle.jdwp_machine.specs.Profiles.{CREATE_STRING}
 use Rattle.jdwp_machine.specs.declared.query.Query.{Query}
 
 -- whether a question makes a string

@@ -6,7 +6,7 @@ use Rattle.jdwp_event.specs.Composites.{POLICY_ALL}
 use Rattle.jdwp_event.specs.Modifiers.{ModifierMeaning}
 use Rattle.jdwp_machine.specs.declared.query.Query.{Query}
 use Rattle.jdwp_machine.specs.Laws.{takes_memory}
-use Rattle.jdwp_machine.specs.Invocations.{invocation_request}
+use Rattle.jdwp_layout.specs.Invocations.{invocation_request}
 use Rattle.jdwp_machine.specs.Meanings.{Meaning}
 use Rattle.jdwp_layout.specs.Meanings.{DatumMeaning}
 use Rattle.jdwp_layout.specs.Shapes.{ItemShape}

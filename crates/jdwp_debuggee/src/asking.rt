@@ -24,16 +24,16 @@ ghost use Rattle.jdwp_layout.specs.CommandTable.{row_at};
 ghost use Rattle.jdwp_layout.specs.Writes.{data_canonical};
 ghost use Rattle.jdwp_layout.specs.Meanings.{DatumMeaning, Many, Object, raw_bytes};
 ghost use Rattle.jdwp_layout.specs.Shapes.{ItemShape, shape};
-ghost use Rattle.jdwp_machine.specs.Invocations.{invocation_request};
+ghost use Rattle.jdwp_layout.specs.Invocations.{invocation_request};
 ghost use Rattle.jdwp_machine.specs.Laws.{takes_memory};
 
 use crate::debuggee::Debuggee;
 use crate::reply::{Reply, Sent};
 use crate::settings::Settings;
 use jdwp_action::reply_layout;
+use jdwp_layout::invocation::request_layout;
 use jdwp_layout::numbers::{ALL_THREADS, VIRTUAL_MACHINE};
 use jdwp_layout::{Answer, Data, Datum, Layout, Scalar, read, write};
-use jdwp_machine::invocation::request_layout;
 use jdwp_machine::{Machine, Query, is_among};
 use jdwp_value::{FrameId, ObjectId, Value};
 use jdwp_wire::{DataFault, ErrorCode, IdSizes, NoMemory};
@@ -142,15 +142,14 @@ impl<M: Machine> Debuggee<M> {
         ensures memory { IfErr result (λ _. ReadsOrAsks M.meaning self.now.moment.machine query.now
             (invocation_request query.now.set query.now.number)) }
     {
-        // It is read, so that what holds of every debuggee is known here.
-        let _ = &self.settings;
+        let sizes = self.machine.sizes();
         match request_layout(query.set, query.number) {
-            Some(layout) => self.ask_invocation(alloc, query, &layout),
+            Some(layout) => self.ask_invocation(alloc, query, &layout, &sizes),
             None => self.ask_machine(alloc, query),
         }
     }
 
-    /// An invocation whose data have this layout.
+    /// An invocation whose data have this layout, where these are the widths of ids.
     ///
     /// # Errors
     /// `NoMemory` where an allocation was refused, and only where its data read.
@@ -159,7 +158,9 @@ impl<M: Machine> Debuggee<M> {
         alloc: Global,
         query: &Query,
         layout: &Layout,
+        sizes: &IdSizes,
     ) -> Result<Sent, NoMemory>
+        requires { sizes.now ≡ M.meaning.sizes self.now.moment.machine }
         ensures value { IfOk result (λ sent. IsSent (M.meaning.sizes self.now.moment.machine)
             (invoked M.meaning self.now.settings self.now.moment query.now
             (data_in (M.meaning.sizes self.now.moment.machine) (shape layout.now)
@@ -175,8 +176,7 @@ impl<M: Machine> Debuggee<M> {
         ensures memory { IfErr result (λ _. ReadsOrAsks M.meaning self.now.moment.machine query.now
             (Some (shape layout.now))) }
     {
-        let sizes = self.machine.sizes();
-        match read(alloc, layout, &sizes, bytes_of(&query.content)) {
+        match read(alloc, layout, sizes, bytes_of(&query.content)) {
             Ok(items) => {
                 let content = Data::new(items);
                 let thread = invoking_thread(&content);

@@ -19,7 +19,7 @@ ghost use Rattle.jdwp_event.specs.Requests.{all_asked};
 ghost use Rattle.jdwp_layout.specs.Meanings.{ScalarMeaning};
 ghost use Rattle.jdwp_layout.specs.Reads.{data_at};
 ghost use Rattle.jdwp_layout.specs.Shapes.{ItemShape};
-ghost use Rattle.jdwp_machine.specs.Invocations.{invocation_request};
+ghost use Rattle.jdwp_layout.specs.Invocations.{invocation_request};
 ghost use Rattle.jdwp_wire.specs.Widths.{Widths};
 ghost use Rattle.jdwp_wire.specs.Limits.{least_packet_limit};
 ghost use Rattle.jdwp_debuggee.specs.Running.{Runs};

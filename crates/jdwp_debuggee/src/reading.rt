@@ -16,13 +16,13 @@ ghost use Rattle.jdwp_debuggee.specs.Sending.{is_short_action, is_short_asked};
 ghost use Rattle.jdwp_debuggee.specs.Wants.{ReadsData};
 
 use crate::command::{Action, ParsedCommand};
+use jdwp_layout::invocation::request_layout;
 use jdwp_layout::numbers::{
     CLEAR_ALL_BREAKPOINTS, CLEAR_REQUEST, DISPOSE, EVENT, EVENT_REQUEST, HOLD_EVENTS, ID_SIZES,
     RELEASE_EVENTS, RESUME, RESUME_THREAD, SUSPEND, SUSPEND_COUNT, SUSPEND_THREAD,
     THREAD_REFERENCE, THREAD_STATUS, VIRTUAL_MACHINE,
 };
 use jdwp_layout::{Data, Datum, Layout, layout_of, read};
-use jdwp_machine::invocation::request_layout;
 use jdwp_machine::{Profile, Query};
 use jdwp_value::ObjectId;
 use jdwp_wire::{DataFault, ErrorCode, IdSizes, NoMemory, Wire};

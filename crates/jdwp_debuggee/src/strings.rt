@@ -1,6 +1,7 @@
 //! VirtualMachine.CreateString (JDWP specification, "VirtualMachine").
 ghost use Rattle.std.specs.Prelude.{◌≡◌, ◌+◌, ◌≤◌, length, IfOk, IfErr, IsTrue, OnErr, OnOk};
 ghost use Rattle.jdwp_wire.specs.Limits.{least_packet_limit};
+ghost use Rattle.jdwp_layout.specs.CommandNumbers as commands;
 ghost use Rattle.jdwp_action.specs.AnswerPackets.{EncodesAnswer};
 ghost use Rattle.jdwp_debuggee.specs.Debuggees.{at_moment};
 ghost use Rattle.jdwp_debuggee.specs.Effects.{string_made};
@@ -8,13 +9,11 @@ ghost use Rattle.jdwp_debuggee.specs.Sending.{IsSent, sent_bytes};
 ghost use Rattle.jdwp_debuggee.specs.StepParts.{number_of};
 ghost use Rattle.jdwp_debuggee.specs.Strings.{makes_string, object_alone, text_in};
 ghost use Rattle.jdwp_machine.specs.Laws.{takes_memory};
-ghost use Rattle.jdwp_machine.specs.Profiles as profiles;
 
 use crate::debuggee::Debuggee;
 use crate::reply::{Reply, Sent};
-use jdwp_layout::numbers::VIRTUAL_MACHINE;
+use jdwp_layout::numbers::{CREATE_STRING, VIRTUAL_MACHINE};
 use jdwp_layout::{Answer, Data, Datum, Scalar};
-use jdwp_machine::profile::CREATE_STRING;
 use jdwp_machine::{Machine, Query};
 use jdwp_value::ObjectId;
 use jdwp_wire::NoMemory;
@@ -57,8 +56,8 @@ impl<M: Machine> Debuggee<M> {
         ensures value { IfOk result (λ sent. IsSent (M.meaning.sizes self.old.moment.machine)
             (string_made M.meaning self.old.moment text.now).answer sent) }
         ensures encoded { IfOk result (λ _. EncodesAnswer
-            (M.meaning.sizes self.old.moment.machine) profiles.CREATE_STRING.set
-            profiles.CREATE_STRING.number
+            (M.meaning.sizes self.old.moment.machine) commands.CREATE_STRING.set
+            commands.CREATE_STRING.number
             (string_made M.meaning self.old.moment text.now).answer) }
         ensures fits { IfOk result (λ sent. least_packet_limit ≤ self.old.settings.limits.packet
             → 11 + length (sent_bytes (M.meaning.sizes self.old.moment.machine) sent)

@@ -1,11 +1,10 @@
 -- A session's begin and its loss in the protocol's words.
-use Rattle.std.proofs.Common.{◌≡◌, ◌∙◌, ℕ, zero, suc, false, List, [], ◌∷◌, slice_get, Option, Some, None, ap, refl}
+use Rattle.std.proofs.Common.{◌≡◌, ◌∙◌, ℕ, zero, suc, false, List, [], ◌∷◌, Option, Some, None, ap, refl}
 use Rattle.std.specs.Prelude.{nat_lt}
-use Rattle.std.specs.Option.{option_map}
 use Rattle.jdwp_debugger.specs.declared.order.Order.{Order}
 use Rattle.jdwp_debugger.specs.declared.order.Order.TheVariants.{One, Apart}
 use Rattle.jdwp_debugger.specs.declared.pending.Ticket.{Ticket}
-use Rattle.jdwp_debugger.specs.Debuggers.{Asked, Debugger, Unanswered, at_place, attached, first_in, lost_debugger, tickets_of, unanswered}
+use Rattle.jdwp_debugger.specs.Debuggers.{Asked, Debugger, attached, first_in, lost_debugger, tickets_of}
 use Rattle.jdwp_debugger.specs.FollowingKept.{following_of}
 use Rattle.jdwp_debugger.specs.Holding.{held_in, surely}
 use Rattle.jdwp_debugger.specs.Protocol.{HoldsNobody, LosesEach, ticket_asked, ticket_at}

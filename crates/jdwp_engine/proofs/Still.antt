@@ -1,15 +1,14 @@
 -- A round in which no thread may step.
-use Rattle.std.proofs.Common.{◌≡◌, ◌∙◌, ℕ, ◌<◌, ◌≤◌, ◌+◌, ◌++◌, Bool, true, false, List, [], ◌∷◌, Option, Some, None, Result, Ok, inl, inr, sym, refl, subst, arith, zero, suc}
+use Rattle.std.proofs.Common.{◌≡◌, ◌∙◌, ℕ, ◌<◌, ◌≤◌, ◌+◌, ◌++◌, Bool, true, false, List, [], ◌∷◌, Option, Some, None, Ok, inl, inr, sym, refl, subst, arith, zero, suc}
 use Rattle.std.proofs.lemmas.Bool.{cases_Bool, cases_lt}
 use Rattle.std.proofs.lemmas.Grind.{common_steps}
 use Rattle.std.proofs.lemmas.List.{append-nil, append_assoc}
 use Rattle.jdwp_machine.specs.Meanings.{Meaning, has}
 use Rattle.jdwp_target.specs.declared.target.Stepped.TheVariants.{Frozen}
-use Rattle.jdwp_target.specs.declared.target.TargetFault.{TargetFault}
 use Rattle.jdwp_target.specs.Targets.{Target}
 use Rattle.jdwp_target.specs.ReadsBack.{StepReadsBack}
 use Rattle.jdwp_target.specs.Turns.{EncodesWhere, SendsWhere, StepsAt, StepsWhere, is_frozen}
-use Rattle.jdwp_engine.specs.Rounds.{IsNext, IsNextThread, StepsEach, Over, Steps, is_above}
+use Rattle.jdwp_engine.specs.Rounds.{IsNext, StepsEach, Over, Steps, is_above}
 use Rattle.jdwp_engine.proofs.Ahead.{has-first}
 use Rattle.jdwp_engine.proofs.Onward.{next-below, next-first, next-kept, next-nearer}
 

@@ -21,6 +21,9 @@ REFERENCE_TYPE = 2
 abbrev pub CLASS_TYPE : ℕ
 CLASS_TYPE = 3
 
+abbrev pub INTERFACE_TYPE : ℕ
+INTERFACE_TYPE = 5
+
 abbrev pub METHOD : ℕ
 METHOD = 6
 
@@ -84,8 +87,14 @@ RESUME = record { set = VIRTUAL_MACHINE; number = 9 }
 abbrev pub EXIT : CommandNumber
 EXIT = record { set = VIRTUAL_MACHINE; number = 10 }
 
+abbrev pub CREATE_STRING : CommandNumber
+CREATE_STRING = record { set = VIRTUAL_MACHINE; number = 11 }
+
 abbrev pub CAPABILITIES : CommandNumber
 CAPABILITIES = record { set = VIRTUAL_MACHINE; number = 12 }
+
+abbrev pub CLASS_PATHS : CommandNumber
+CLASS_PATHS = record { set = VIRTUAL_MACHINE; number = 13 }
 
 abbrev pub DISPOSE_OBJECTS : CommandNumber
 DISPOSE_OBJECTS = record { set = VIRTUAL_MACHINE; number = 14 }
@@ -134,6 +143,9 @@ CLASS_STATUS = record { set = REFERENCE_TYPE; number = 9 }
 abbrev pub INTERFACES : CommandNumber
 INTERFACES = record { set = REFERENCE_TYPE; number = 10 }
 
+abbrev pub SOURCE_DEBUG_EXTENSION : CommandNumber
+SOURCE_DEBUG_EXTENSION = record { set = REFERENCE_TYPE; number = 12 }
+
 abbrev pub SIGNATURE_WITH_GENERIC : CommandNumber
 SIGNATURE_WITH_GENERIC = record { set = REFERENCE_TYPE; number = 13 }
 
@@ -150,6 +162,17 @@ CLASS_MODULE = record { set = REFERENCE_TYPE; number = 19 }
 
 abbrev pub SUPERCLASS : CommandNumber
 SUPERCLASS = record { set = CLASS_TYPE; number = 1 }
+
+abbrev pub CLASS_INVOKE : CommandNumber
+CLASS_INVOKE = record { set = CLASS_TYPE; number = 3 }
+
+abbrev pub NEW_INSTANCE : CommandNumber
+NEW_INSTANCE = record { set = CLASS_TYPE; number = 4 }
+
+-- ---- InterfaceType
+
+abbrev pub INTERFACE_INVOKE : CommandNumber
+INTERFACE_INVOKE = record { set = INTERFACE_TYPE; number = 1 }
 
 -- ---- Method
 
@@ -172,6 +195,9 @@ OBJECT_TYPE = record { set = OBJECT_REFERENCE; number = 1 }
 
 abbrev pub GET_FIELDS : CommandNumber
 GET_FIELDS = record { set = OBJECT_REFERENCE; number = 2 }
+
+abbrev pub OBJECT_INVOKE : CommandNumber
+OBJECT_INVOKE = record { set = OBJECT_REFERENCE; number = 6 }
 
 abbrev pub DISABLE_COLLECTION : CommandNumber
 DISABLE_COLLECTION = record { set = OBJECT_REFERENCE; number = 7 }
@@ -209,6 +235,12 @@ FRAMES = record { set = THREAD_REFERENCE; number = 6 }
 
 abbrev pub FRAME_COUNT : CommandNumber
 FRAME_COUNT = record { set = THREAD_REFERENCE; number = 7 }
+
+abbrev pub OWNED_MONITORS : CommandNumber
+OWNED_MONITORS = record { set = THREAD_REFERENCE; number = 8 }
+
+abbrev pub CONTENDED_MONITOR : CommandNumber
+CONTENDED_MONITOR = record { set = THREAD_REFERENCE; number = 9 }
 
 abbrev pub SUSPEND_COUNT : CommandNumber
 SUSPEND_COUNT = record { set = THREAD_REFERENCE; number = 12 }

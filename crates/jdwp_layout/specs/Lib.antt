@@ -3,6 +3,7 @@ pub mod ModifierKindNumbers
 pub mod ModifiersAndEvents
 pub mod Shapes
 pub mod CommandNumbers
+pub mod Invocations
 pub mod Rows
 pub mod CommandTable
 pub mod Meanings

@@ -9,6 +9,7 @@ mod datum;
 mod entry;
 pub mod event_kinds;
 mod fitting;
+pub mod invocation;
 mod item;
 pub mod laws;
 pub mod modifier_kinds;

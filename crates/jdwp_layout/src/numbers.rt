@@ -6,6 +6,8 @@ pub const VIRTUAL_MACHINE: u8 = 1;
 pub const REFERENCE_TYPE: u8 = 2;
 /// The command set ClassType.
 pub const CLASS_TYPE: u8 = 3;
+/// The command set InterfaceType.
+pub const INTERFACE_TYPE: u8 = 5;
 /// The command set Method.
 pub const METHOD: u8 = 6;
 /// The command set ObjectReference.
@@ -47,8 +49,12 @@ pub const SUSPEND: u8 = 8;
 pub const RESUME: u8 = 9;
 /// VirtualMachine.Exit.
 pub const EXIT: u8 = 10;
+/// VirtualMachine.CreateString.
+pub const CREATE_STRING: u8 = 11;
 /// VirtualMachine.Capabilities.
 pub const CAPABILITIES: u8 = 12;
+/// VirtualMachine.ClassPaths.
+pub const CLASS_PATHS: u8 = 13;
 /// VirtualMachine.DisposeObjects.
 pub const DISPOSE_OBJECTS: u8 = 14;
 /// VirtualMachine.HoldEvents.
@@ -80,6 +86,8 @@ pub const SOURCE_FILE: u8 = 7;
 pub const CLASS_STATUS: u8 = 9;
 /// ReferenceType.Interfaces.
 pub const INTERFACES: u8 = 10;
+/// ReferenceType.SourceDebugExtension.
+pub const SOURCE_DEBUG_EXTENSION: u8 = 12;
 /// ReferenceType.SignatureWithGeneric.
 pub const SIGNATURE_WITH_GENERIC: u8 = 13;
 /// ReferenceType.FieldsWithGeneric.
@@ -91,6 +99,13 @@ pub const CLASS_MODULE: u8 = 19;
 
 /// ClassType.Superclass.
 pub const SUPERCLASS: u8 = 1;
+/// ClassType.InvokeMethod.
+pub const CLASS_INVOKE: u8 = 3;
+/// ClassType.NewInstance.
+pub const NEW_INSTANCE: u8 = 4;
+
+/// InterfaceType.InvokeMethod.
+pub const INTERFACE_INVOKE: u8 = 1;
 
 /// Method.LineTable.
 pub const LINE_TABLE: u8 = 1;
@@ -105,6 +120,8 @@ pub const VARIABLE_TABLE_WITH_GENERIC: u8 = 5;
 pub const OBJECT_TYPE: u8 = 1;
 /// ObjectReference.GetValues.
 pub const GET_FIELDS: u8 = 2;
+/// ObjectReference.InvokeMethod.
+pub const OBJECT_INVOKE: u8 = 6;
 /// ObjectReference.DisableCollection.
 pub const DISABLE_COLLECTION: u8 = 7;
 /// ObjectReference.EnableCollection.
@@ -129,6 +146,10 @@ pub const THREAD_GROUP: u8 = 5;
 pub const FRAMES: u8 = 6;
 /// ThreadReference.FrameCount.
 pub const FRAME_COUNT: u8 = 7;
+/// ThreadReference.OwnedMonitors.
+pub const OWNED_MONITORS: u8 = 8;
+/// ThreadReference.CurrentContendedMonitor.
+pub const CONTENDED_MONITOR: u8 = 9;
 /// ThreadReference.SuspendCount.
 pub const SUSPEND_COUNT: u8 = 12;
 

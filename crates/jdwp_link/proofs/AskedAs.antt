@@ -3,7 +3,7 @@ use Rattle.std.proofs.Common.{◌≡◌, ℕ, ◌∙◌, ◌||◌, ◌&&◌, ◌
 use Rattle.std.proofs.lemmas.Bool.{cases_Bool, eqb-true, false≢true}
 use Rattle.jdwp_wire.specs.declared.error_code.ErrorCode.{ErrorCode}
 use Rattle.jdwp_wire.specs.Widths.{Widths}
-use Rattle.jdwp_layout.specs.CommandNumbers.{CommandNumber, is_command}
+use Rattle.jdwp_layout.specs.CommandNumbers.{CommandNumber, is_command, CONTENDED_MONITOR, CREATE_STRING, OWNED_MONITORS, SOURCE_DEBUG_EXTENSION}
 use Rattle.jdwp_layout.specs.CommandTable.{row_at}
 use Rattle.jdwp_layout.specs.Reads.{data_at}
 use Rattle.jdwp_layout.specs.Rows.{Row, RowShapes}
@@ -11,7 +11,7 @@ use Rattle.jdwp_layout.specs.Writes.{data_canonical}
 use Rattle.jdwp_layout.proofs.GrammarLaws.{data_again}
 use Rattle.jdwp_machine.specs.declared.profile.Profile.{Profile}
 use Rattle.jdwp_machine.specs.declared.profile.Profile.TheVariants.{Standard, Jdi}
-use Rattle.jdwp_machine.specs.Profiles.{CREATE_STRING, SOURCE_DEBUG_EXTENSION, OWNED_MONITORS, CONTENDED_MONITOR, is_added, adds, adds_raw}
+use Rattle.jdwp_machine.specs.Profiles.{adds, adds_raw}
 use Rattle.jdwp_action.specs.Actions.{Carried, Content, Raw, Command, is_implemented, is_some_shapes}
 use Rattle.jdwp_action.specs.CommandPackets.{carried_bytes}
 use Rattle.jdwp_action.specs.CommandReads.{content_read}

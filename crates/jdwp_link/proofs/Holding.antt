@@ -10,7 +10,7 @@ use Rattle.jdwp_mirror.specs.Messages.{id_sizes}
 use Rattle.jdwp_debugger.specs.Debuggers.{AreOwn, Asked, Unanswered, and_then, has_tickets, unanswered}
 use Rattle.jdwp_debugger.specs.declared.pending.Ticket as code
 use Rattle.jdwp_model.specs.Headline as headline
-use Rattle.jdwp_model.specs.Headline.{CountIsAtMost, HasTheCounts, HasTheRequests, HeldIsCovered, HeldIsSuspended, KnowsAndHolds, requests_then}
+use Rattle.jdwp_model.specs.Headline.{CountIsAtMost, HasTheCounts, HasTheRequests, HeldIsCovered, HeldIsSuspended, KnowsAndHolds}
 use Rattle.jdwp_model.specs.Lasting as lasting
 use Rattle.jdwp_model.specs.Lasting.{writes}
 use Rattle.jdwp_model.specs.Seen as seen

@@ -25,7 +25,6 @@ use Rattle.jdwp_debugger.specs.declared.order.Order.{Order}
 use Rattle.jdwp_debugger.specs.declared.order.Order.TheVariants.{One, Apart}
 use Rattle.jdwp_debugger.specs.declared.pending.Ticket as code
 use Rattle.jdwp_model.specs.Events
-use Rattle.jdwp_model.specs.Events.{Outcome}
 use Rattle.jdwp_model.specs.Next.{composites_of, has_end, messages_of}
 use Rattle.jdwp_model.specs.World.{Packet}
 use Rattle.jdwp_link.specs.Stands.{AreParked}

@@ -11,7 +11,7 @@ use Rattle.jdwp_debugger.specs.Asking.{HasAsked}
 use Rattle.jdwp_debugger.specs.Debuggers.{Asked, Debugger, Unanswered, at_place, has_tickets, is_front, seen_unanswered, tickets_of, unanswered}
 use Rattle.jdwp_debugger.specs.declared.pending.Ticket.{Ticket}
 use Rattle.jdwp_debugger.specs.Debuggers as debuggers
-use Rattle.jdwp_debugger.specs.DebuggerTurns.{AreFew, Told, TurnsAt}
+use Rattle.jdwp_debugger.specs.DebuggerTurns.{TurnsAt}
 use Rattle.jdwp_debugger.specs.DebuggerTurns as turns
 use Rattle.jdwp_debugger.specs.declared.turning.Read.{Read}
 use Rattle.jdwp_debugger.specs.declared.turning.Read.TheVariants as read

@@ -12,7 +12,7 @@ use Rattle.jdwp_action.specs.Actions.{Command}
 use Rattle.jdwp_action.specs.AnswerPackets.{EncodesAnswer, answer_bytes, error_of}
 use Rattle.jdwp_debuggee.specs.Settings.{Settings}
 use Rattle.jdwp_debuggee.specs.State.{Moment}
-use Rattle.jdwp_mirror.specs.Faults.{fault_of, has_bad_event, is_bad_event, is_bad_reply, is_waited_for, or_else, when}
+use Rattle.jdwp_mirror.specs.Faults.{fault_of, has_bad_event, is_bad_reply, is_waited_for, or_else, when}
 use Rattle.jdwp_mirror.specs.Faults as faults
 use Rattle.jdwp_mirror.specs.KnownThreads.{count_in}
 use Rattle.jdwp_mirror.specs.Messages.{Ticket, Message, Handshake, Reply, Report, id_sizes}

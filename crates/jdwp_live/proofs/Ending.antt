@@ -4,7 +4,7 @@ use Rattle.std.proofs.lemmas.Grind.{common_steps}
 use Rattle.std.proofs.lemmas.List.{append-nil, take_all}
 use Rattle.jdwp_wire.specs.Bytes.{IsBytes}
 use Rattle.jdwp_wire.specs.Streams.{Message, More}
-use Rattle.jdwp_end.specs.Ends.{front_of, is_established, is_open, is_paused, next_of}
+use Rattle.jdwp_end.specs.Ends.{front_of, is_open, is_paused, next_of}
 use Rattle.jdwp_end.specs.Ends as ends
 use Rattle.jdwp_end.specs.Runs.{Carries}
 use Rattle.jdwp_end.specs.CarryingLaws.{carries-taken}

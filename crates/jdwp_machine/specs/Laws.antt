@@ -12,7 +12,7 @@ use Rattle.jdwp_value.specs.Values.{value_refusal}
 use Rattle.jdwp_value.specs.declared.value.Value.{Value}
 use Rattle.jdwp_layout.specs.declared.answer.Answer.{Answer}
 use Rattle.jdwp_layout.specs.declared.answer.Answer.TheVariants.{Data, Error}
-use Rattle.jdwp_layout.specs.CommandNumbers.{is_command, FRAMES, FRAME_COUNT, GET_SLOTS, SET_SLOTS, THIS_OBJECT, SET_REQUEST}
+use Rattle.jdwp_layout.specs.CommandNumbers.{is_command, FRAMES, FRAME_COUNT, GET_SLOTS, SET_SLOTS, THIS_OBJECT, SET_REQUEST, CREATE_STRING}
 use Rattle.jdwp_layout.specs.CommandTable.{row_at}
 use Rattle.jdwp_layout.specs.EventKindNumbers.{BREAKPOINT}
 use Rattle.jdwp_layout.specs.ModifierKindNumbers.{LOCATION_ONLY}
@@ -23,7 +23,6 @@ use Rattle.jdwp_event.specs.Composites.{POLICY_NONE}
 use Rattle.jdwp_event.specs.Occurrences.{OccurrenceMeaning, Moved, Entered, Left, Threw, Prepared, Started, RanOut, started, runs_out}
 use Rattle.jdwp_machine.specs.declared.query.Query.{Query}
 use Rattle.jdwp_machine.specs.Meanings.{Meaning, has}
-use Rattle.jdwp_machine.specs.Profiles.{CREATE_STRING}
 
 -- ---- words of the laws
 

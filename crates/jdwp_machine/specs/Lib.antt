@@ -1,4 +1,3 @@
 pub mod Meanings
 pub mod Laws
-pub mod Invocations
 pub mod Profiles

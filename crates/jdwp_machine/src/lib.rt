@@ -1,7 +1,6 @@
 //! What a target runs: the trait `Machine` with its laws.
 #![tactic(auto)]
 
-pub mod invocation;
 pub mod laws;
 mod live;
 mod machine;

@@ -2,23 +2,11 @@
 ghost use Rattle.std.specs.Prelude.{◌≡◌};
 ghost use Rattle.jdwp_machine.specs.Profiles.{adds, adds_raw, is_added};
 
-use crate::invocation::request_layout;
-use jdwp_layout::numbers::{REFERENCE_TYPE, THREAD_REFERENCE, VIRTUAL_MACHINE};
-
-/// The number of VirtualMachine.CreateString.
-pub const CREATE_STRING: u8 = 11;
-
-/// The number of VirtualMachine.ClassPaths.
-pub const CLASS_PATHS: u8 = 13;
-
-/// The number of ReferenceType.SourceDebugExtension.
-pub const SOURCE_DEBUG_EXTENSION: u8 = 12;
-
-/// The number of ThreadReference.OwnedMonitors.
-pub const OWNED_MONITORS: u8 = 8;
-
-/// The number of ThreadReference.CurrentContendedMonitor.
-pub const CONTENDED_MONITOR: u8 = 9;
+use jdwp_layout::invocation::request_layout;
+use jdwp_layout::numbers::{
+    CLASS_PATHS, CONTENDED_MONITOR, CREATE_STRING, OWNED_MONITORS, REFERENCE_TYPE,
+    SOURCE_DEBUG_EXTENSION, THREAD_REFERENCE, VIRTUAL_MACHINE,
+};
 
 /// What a target is made for: how much it answers beside what a target answers everywhere.
 #[derive(Clone, Copy, Debug, PartialEq, Eq)]

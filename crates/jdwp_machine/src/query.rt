@@ -1,7 +1,8 @@
 //! What a machine is asked.
 use jdwp_layout::Data;
 
-/// A question to a machine: a command of the table that changes nothing, with its data in the layout of the row's request.
+/// A question to a machine: a command of the table, with its data in the layout of the row's request. Where the table does not read them
+/// (ClassPaths, and invocations of methods), they are bytes.
 #[derive(Debug, Drop)]
 pub struct Query {
     /// The command set.

@@ -3,16 +3,15 @@ use Rattle.std.proofs.Common.{◌≡◌, ◌≢◌, ℕ, zero, suc, ◌==◌, �
 use Rattle.std.proofs.lemmas.Bool.{eqb-true, eq-eqb, false_from_ne_true}
 use Rattle.jdwp_wire.specs.ErrorCodes.{THREAD_NOT_SUSPENDED}
 use Rattle.jdwp_layout.specs.declared.answer.Answer.TheVariants.{Data, Error}
-use Rattle.jdwp_layout.specs.CommandNumbers.{CommandNumber, is_command, FRAMES, FRAME_COUNT, GET_SLOTS, THIS_OBJECT}
+use Rattle.jdwp_layout.specs.CommandNumbers.{CommandNumber, is_command, FRAMES, FRAME_COUNT, GET_SLOTS, THIS_OBJECT, CREATE_STRING}
 use Rattle.jdwp_layout.specs.Meanings as meaning
 use Rattle.jdwp_layout.specs.Meanings.{Object, DatumMeaning, One}
 use Rattle.jdwp_event.specs.Composites.{CompositeMeaning, gathered}
 use Rattle.jdwp_event.specs.Occurrences.{HappeningMeaning, runs_out}
 use Rattle.jdwp_machine.specs.declared.query.Query.{Query}
-use Rattle.jdwp_machine.specs.Invocations.{is_invocation}
+use Rattle.jdwp_layout.specs.Invocations.{is_invocation}
 use Rattle.jdwp_machine.specs.Meanings.{Meaning, has}
 use Rattle.jdwp_machine.specs.Laws.{IsLawful, asks_frames, begins_with}
-use Rattle.jdwp_machine.specs.Profiles.{CREATE_STRING}
 use Rattle.jdwp_debuggee.specs.Settings.{Settings}
 use Rattle.jdwp_debuggee.specs.State.{State, Moment, count_of, count_or_zero, or_zero, is_marked}
 use Rattle.jdwp_action.specs.Actions

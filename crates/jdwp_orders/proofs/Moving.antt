@@ -16,7 +16,7 @@ use Rattle.jdwp_mirror.specs.Messages.{Message, Handshake, Reply, Report}
 use Rattle.jdwp_mirror.specs.Mirror as mirror
 use Rattle.jdwp_mirror.specs.Faults.{is_bad_data}
 use Rattle.jdwp_model.proofs.Acts.{event_raise, kills, move}
-use Rattle.jdwp_apart.specs.Messages.{Composite, raises, lowers, needs, is_refused, count_in, stops, one_if}
+use Rattle.jdwp_apart.specs.Messages.{Composite, raises, lowers, is_refused, count_in, stops, one_if}
 use Rattle.jdwp_apart.specs.Messages as apart_messages
 use Rattle.jdwp_apart.specs.World.{Life, Unborn, Alive, Ended, is_unborn, is_alive, count_after, may_answer, lives_one}
 use Rattle.jdwp_orders.proofs.People.{Person}

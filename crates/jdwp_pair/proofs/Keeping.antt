@@ -1,5 +1,5 @@
 -- what the follower of a link's debugger does at events of the link
-use Rattle.std.proofs.Common.{◌≡◌, inl, inr, ℕ, Bool, true, false, List, [], ◌∷◌, length, min, take, Option, Some, None, is_some, IsTrue, ◌↔◌, refl, sym, ◌∙◌, ap, subst, arith}
+use Rattle.std.proofs.Common.{◌≡◌, inl, inr, ℕ, Bool, true, false, List, [], ◌∷◌, length, min, take, Option, Some, None, IsTrue, ◌↔◌, refl, sym, ◌∙◌, ap, subst, arith}
 use Rattle.std.proofs.lemmas.List.{take_all, take_min}
 use Rattle.std.specs.Option.{option_map}
 use Rattle.jdwp_wire.specs.Streams as streams
@@ -22,12 +22,12 @@ use Rattle.jdwp_end.specs.Story.{Story}
 use Rattle.jdwp_attach.specs.Telling.{TellsKnown, TellsMirror}
 use Rattle.jdwp_pair.specs.declared.ended.PairEnded.{PairEnded}
 use Rattle.jdwp_pair.specs.declared.ended.PairEnded.TheVariants as ended
-use Rattle.jdwp_pair.specs.Events.{Happens, Leads, AskedCount, MayCount, Quietly, Standing, Stays, piece, refusal_in}
+use Rattle.jdwp_pair.specs.Events.{Happens, Leads, AskedCount, MayCount, Standing, piece, refusal_in}
 use Rattle.jdwp_pair.specs.Followers.{AsksBoth, AsksBothWhere, AsksToo, AttachesWhere, Followed, Follows, Begins, Rests, Feeds, Turns, Asks, Loses, Attaches, IsNewIn, IsOfTarget, KeepsUp, MayAsk, MayAskAlone, MayAskAloneWhere, MayAskWhere, TurnsToo, TurnsWhere, begun_anew, begun_too, fed_too, fed_where, lost_where, silent}
 use Rattle.jdwp_pair.specs.Lines.{FailsToTellKnown, TellsBy}
 use Rattle.jdwp_pair.specs.Telling.{FailsToTell}
 use Rattle.jdwp_pair.proofs.Leading.{ran-none}
-use Rattle.jdwp_pair.specs.Rounds.{ComesToTarget, EndsMoving, MayCountWhere, MovesOn, PieceToTarget, ReleasesOrSteps, Repeats, NotYet, OneMore, RunsMachine, StepsEach, Over, Steps, StopsCounting, TurnsTarget, Until}
+use Rattle.jdwp_pair.specs.Rounds.{ComesToTarget, EndsMoving, MovesOn, PieceToTarget, ReleasesOrSteps, Repeats, NotYet, OneMore, RunsMachine, StepsEach, Over, Steps, StopsCounting, TurnsTarget, Until}
 
 -- ---- at an event
 

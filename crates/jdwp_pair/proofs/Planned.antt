@@ -1,12 +1,11 @@
 -- the lines of a plan, and how a run of it ends
-use Rattle.std.proofs.Common.{◌≡◌, ◌≤◌, ◌⊎◌, inl, inr, ℕ, ◌+◌, Bool, true, false, ◌&&◌, List, [], ◌∷◌, ◌++◌, length, get_or, slice_get, Option, Some, None, is_some, Result, Ok, Err, IfErr, ◌||◌, refl, sym, ◌∙◌, ap, subst, arith}
-use Rattle.std.proofs.lemmas.Grind.{common_steps}
+use Rattle.std.proofs.Common.{◌≡◌, ◌≤◌, ◌⊎◌, inl, inr, ℕ, ◌+◌, Bool, true, false, ◌&&◌, List, [], ◌∷◌, ◌++◌, slice_get, Option, Some, None, is_some, Result, Ok, Err, IfErr, ◌||◌, refl, sym, ◌∙◌, ap, subst, arith}
 use Rattle.std.specs.Borrow.{Bor}
 use Rattle.std.specs.Global.{Vec}
 use Rattle.jdwp_machine.specs.Meanings.{Meaning}
 use Rattle.jdwp_action.specs.Actions.{Command}
 use Rattle.jdwp_debugger.specs.declared.pending.Ticket.{Ticket}
-use Rattle.jdwp_debugger.specs.Debuggers.{Asked, Debugger, Unanswered, at_place, has_tickets, seen_unanswered, unanswered}
+use Rattle.jdwp_debugger.specs.Debuggers.{Asked, Unanswered, at_place, has_tickets, seen_unanswered, unanswered}
 use Rattle.jdwp_attach.specs.OwnCounts.{suspend_count}
 use Rattle.jdwp_debugger.specs.declared.order.Order.{Order}
 use Rattle.jdwp_debugger.specs.declared.order.Order.TheVariants.{One, Apart}
@@ -22,9 +21,9 @@ use Rattle.jdwp_pair.specs.declared.ended.PairEnded.{PairEnded}
 use Rattle.jdwp_pair.specs.declared.ended.PairEnded.TheVariants as ended
 use Rattle.jdwp_pair.specs.Connections.{is_disconnected}
 use Rattle.jdwp_pair.specs.Events.{Happens, Leads, Rests, Moved, Turned, AskedCount, MayCount, MayLose, Moves, Reads, Standing, Stays}
-use Rattle.jdwp_pair.specs.Lines.{Asks, AsksFor, CarriesOut, Does, EndsAsking, EndsAtNext, EndsLine, EndsLosing, EndsLosingTarget, FailsLine, FailsToTellKnown, LosesDebugger, RefusesCommand, RefusesLine, TakesLine, command_by, is_due, is_due_at, next_is_due}
+use Rattle.jdwp_pair.specs.Lines.{Asks, AsksFor, CarriesOut, Does, EndsAsking, EndsLine, EndsLosing, EndsLosingTarget, FailsLine, FailsToTellKnown, LosesDebugger, RefusesCommand, RefusesLine, TakesLine, command_by, is_due, is_due_at, next_is_due}
 use Rattle.jdwp_pair.specs.PlanRuns.{Ends, EndsBehind, Finishes, LosesBoth, Rounds, NoRound, Another, RunsPlan, beginning, is_finished, unflushed_end}
-use Rattle.jdwp_pair.specs.Rounds.{EndsAt, EndsMoving, EndsRound, EndsTurn, IsRound, begun_where}
+use Rattle.jdwp_pair.specs.Rounds.{EndsAt, EndsRound, EndsTurn, IsRound}
 use Rattle.jdwp_pair.specs.Telling.{FailsToTell, lost_text}
 use Rattle.jdwp_pair.proofs.Leading.{debugger-leads, machine-moves, ran-both, ran-none}
 

@@ -1,5 +1,5 @@
 -- what a debugger takes of a target that sends replies and events by threads of its own
-use Rattle.std.proofs.Common.{◌≡◌, ℕ, ◌==◌, nat_le, Bool, true, false, ◌||◌, not, List, [], ◌∷◌, length, Option, Some, None, Result, Ok, Err, if◌then◌else◌, slice_get, refl, sym, subst, ap}
+use Rattle.std.proofs.Common.{◌≡◌, ℕ, ◌==◌, nat_le, Bool, true, false, ◌||◌, not, List, [], ◌∷◌, length, Option, Some, None, Ok, if◌then◌else◌, slice_get, refl, sym, subst, ap}
 use Rattle.jdwp_wire.specs.declared.error_code.ErrorCode.{ErrorCode}
 use Rattle.jdwp_wire.specs.declared.packet.PacketKind.{PacketKind}
 use Rattle.jdwp_wire.specs.declared.packet.PacketKind.TheVariants as kind
@@ -11,7 +11,6 @@ use Rattle.jdwp_event.specs.Told.{composite_thread}
 use Rattle.jdwp_action.specs.Actions.{Command}
 use Rattle.jdwp_action.specs.RowLayouts.{row_reply}
 use Rattle.jdwp_layout.specs.CommandTable.{row_at}
-use Rattle.jdwp_debugger.specs.declared.faults.DebuggerFault.{DebuggerFault}
 use Rattle.jdwp_debugger.specs.declared.order.Order.TheVariants.{One, Apart}
 use Rattle.jdwp_debugger.specs.declared.pending.Ticket.{Ticket}
 use Rattle.jdwp_debugger.specs.Debuggers.{Asked, Parked}

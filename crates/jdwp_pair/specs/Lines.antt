@@ -10,7 +10,7 @@ use Rattle.jdwp_debugger.specs.declared.order.Order.{Order}
 use Rattle.jdwp_debugger.specs.declared.order.Order.TheVariants.{One, Apart}
 use Rattle.jdwp_debugger.specs.Debuggers.{Debugger, has_tickets}
 use Rattle.jdwp_debugger.specs.RefusedNumbers.{refused_number}
-use Rattle.jdwp_model.specs.Events.{LinkEvent, Attach, Ask, TargetLoses, DebuggerLoses}
+use Rattle.jdwp_model.specs.Events.{Attach, Ask, TargetLoses, DebuggerLoses}
 use Rattle.jdwp_link.specs.declared.events.Outcome.{Outcome}
 use Rattle.jdwp_link.specs.Clauses.{Ran}
 use Rattle.jdwp_link.specs.Links.{Link}

@@ -1,5 +1,5 @@
 -- Numbers in a line.
-use Rattle.std.proofs.Common.{◌≡◌, ◌≢◌, ◌^◌, ℕ, ◌<◌, Bool, true, false, ◌&&◌, List, length, get_or, Some, Result, Ok, Err, refl, ap}
+use Rattle.std.proofs.Common.{◌≡◌, ◌≢◌, ◌^◌, ℕ, ◌<◌, true, false, ◌&&◌, List, length, get_or, Some, Result, Ok, Err, refl, ap}
 use Rattle.std.specs.Bool.{Decides}
 use Rattle.std.specs.Prelude.{nat_lt}
 use Rattle.std.specs.Result.{OkIff, result_ok}

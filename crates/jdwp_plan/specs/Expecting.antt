@@ -1,5 +1,5 @@
 -- Texts that are expected, and what is one of them.
-use Rattle.std.specs.Prelude.{ℕ, ◌+◌, ◌-◌, ◌==◌, ◌&&◌, ◌||◌, nat_lt, Bool, true, false, List, [], ◌∷◌, length, drop, if◌then◌else◌}
+use Rattle.std.specs.Prelude.{ℕ, ◌+◌, ◌-◌, ◌==◌, ◌&&◌, ◌||◌, nat_lt, Bool, List, [], ◌∷◌, length, drop, if◌then◌else◌}
 use Rattle.jdwp_plan.specs.declared.quoting.Place.{Place}
 use Rattle.jdwp_plan.specs.declared.quoting.Place.TheVariants.{Outside}
 use Rattle.jdwp_plan.specs.Quotes.{place_behind, stands}

@@ -1,5 +1,5 @@
 -- The lines of a plan: what one says, or where it goes wrong, by how many bytes of it follow, and what was expected there.
-use Rattle.std.specs.Prelude.{ℕ, ◌==◌, ◌||◌, ◌^◌, Bool, List, [], ◌∷◌, length, slice_index, Option, Some, None, Result, Ok, Err, if◌then◌else◌, codes}
+use Rattle.std.specs.Prelude.{ℕ, ◌==◌, ◌||◌, ◌^◌, List, [], ◌∷◌, length, slice_index, Option, Some, None, Result, Ok, Err, if◌then◌else◌, codes}
 use Rattle.std.specs.Str.{bytes_eq}
 use Rattle.jdwp_plan.specs.declared.plan_fault.Expected.{Expected}
 use Rattle.jdwp_plan.specs.declared.plan_fault.Expected.TheVariants as want

@@ -13,7 +13,7 @@ use Rattle.jdwp_wire.specs.Widths.{Widths}
 use Rattle.jdwp_plan_run.specs.declared.stop.LineRefusal.TheVariants as refusal
 use Rattle.jdwp_plan_run.specs.declared.stop.Stop.{Stop}
 use Rattle.jdwp_plan_run.specs.declared.stop.Stop.TheVariants as stop
-use Rattle.jdwp_plan_run.specs.Asking.{AskStops, Attaches, CallStops, CarriesData, CommandStops, CommandStopsBy, DataStops, FillStops, IsCommand, IsNoData, IsReadAs, IsSpaced, ReadsData, ReadyStops, SaysData, TextStops, shapes_at}
+use Rattle.jdwp_plan_run.specs.Asking.{AskStops, Attaches, CallStops, CarriesData, CommandStops, CommandStopsBy, DataStops, FillStops, IsCommand, IsReadAs, IsSpaced, ReadsData, ReadyStops, SaysData, TextStops, shapes_at}
 use Rattle.jdwp_plan_run.specs.Calls.{Calls}
 
 -- the command of data that were read

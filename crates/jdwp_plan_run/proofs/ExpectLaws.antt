@@ -1,5 +1,5 @@
 -- What lines expect.
-use Rattle.std.proofs.Common.{◌≡◌, ℕ, Bool, List, Result, Ok, Err, inl, inr, subst, sym}
+use Rattle.std.proofs.Common.{◌≡◌, ℕ, Bool, List, Result, Ok, Err, inr, subst}
 use Rattle.std.specs.Prelude.{OnOk}
 use Rattle.jdwp_debugger.specs.Debuggers.{Debugger}
 use Rattle.jdwp_plan.specs.Filling.{filled}

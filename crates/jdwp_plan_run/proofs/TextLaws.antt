@@ -1,6 +1,6 @@
 -- Digits are text.
 use Rattle.std.proofs.Common.{◌≡◌, ◌<◌, ℕ, zero, suc, Bool, true, false, ◌&&◌, List, [], ◌∷◌, length, get_or, None, Some, cond, refl, arith}
-use Rattle.std.specs.Str.{IsAscii, IsUtf8, all_ascii_digits}
+use Rattle.std.specs.Str.{IsUtf8, all_ascii_digits}
 use Rattle.std.specs.Char.{is_ascii_digit}
 use Rattle.std.specs.Prelude.{nat_lt}
 use Rattle.std.specs.Str.Parse.{digits_value}

@@ -1,5 +1,5 @@
 -- What is told of sessions at a port.
-use Rattle.std.specs.Prelude.{ℕ, List, [], ◌∷◌, ◌++◌, Option, Some, None}
+use Rattle.std.specs.Prelude.{List, [], ◌∷◌, ◌++◌, Option, Some, None}
 use Rattle.jdwp_end.specs.declared.pipes.ended.Ended.{Ended}
 use Rattle.jdwp_end.specs.declared.pipes.ended.Ended.TheVariants.{Done, LostByRead, LostByWrite, Refused, NoMemory, TurnLimit}
 use Rattle.jdwp_port.specs.declared.faults.PortCause.{PortCause}

@@ -10,7 +10,6 @@ use Rattle.jdwp_engine.specs.Outcome.{MayEnd}
 use Rattle.jdwp_engine.specs.Run.{InOrder, cost}
 use Rattle.jdwp_engine.specs.Sessions as engine
 use Rattle.jdwp_end.specs.Story.{Story, empty_story}
-use Rattle.jdwp_port.specs.declared.connection.AtPort.{AtPort}
 use Rattle.jdwp_port.specs.declared.faults.PortCause.{PortCause}
 use Rattle.jdwp_port.specs.declared.faults.PortFault.{PortFault}
 use Rattle.jdwp_port.specs.declared.notices.Notice.{Notice}

@@ -1,5 +1,5 @@
 -- What is told of a capture while it is read.
-use Rattle.std.proofs.Common.{◌≡◌, ◌∙◌, ℕ, suc, ◌+◌, ◌-◌, ◌<◌, ◌≤◌, Bool, true, false, List, [], ◌∷◌, ◌++◌, length, take, Option, Some, None, Result, Ok, Err, inl, inr, refl, sym, ap, subst, arith, append_assoc}
+use Rattle.std.proofs.Common.{◌≡◌, ◌∙◌, ℕ, suc, ◌+◌, ◌-◌, ◌<◌, ◌≤◌, true, false, List, [], ◌∷◌, ◌++◌, length, take, Option, Some, None, Result, Ok, Err, inl, inr, refl, sym, ap, subst, arith, append_assoc}
 use Rattle.std.proofs.KnownBytes.{Appends-nil, Appends-trans, Appends-kept, Consumes-trans, Keeps-refl, Keeps-trans}
 use Rattle.std.proofs.lemmas.List.{append-nil, length-append}
 use Rattle.std.proofs.lemmas.Grind.{common_steps}
@@ -16,7 +16,7 @@ use Rattle.jdwp_program.specs.Captures.{fault_text, shown_text_under, verdict_te
 use Rattle.jdwp_program.specs.Printing.{AppendsPart, AppendsSome}
 use Rattle.jdwp_program.specs.Outputs.{Leaves, status_of_capture}
 use Rattle.jdwp_program.specs.Statuses.{status_of_fault, status_of_told}
-use Rattle.jdwp_program.specs.Streaming.{IsReadToEnd, JudgesRead, JudgesRest, JudgesStream, Prints, ShowsMore, ShowsRead, ShowsRest, ShowsStream, is_stopped}
+use Rattle.jdwp_program.specs.Streaming.{IsReadToEnd, JudgesRead, JudgesRest, JudgesStream, ShowsMore, ShowsRead, ShowsRest, ShowsStream, is_stopped}
 use Rattle.jdwp_program.specs.declared.fault.Fault.{Fault}
 use Rattle.jdwp_program.specs.declared.fault.Fault.TheVariants as fault
 use Rattle.jdwp_record.specs.declared.faults.RecordFault.TheVariants as recorder

@@ -1,16 +1,15 @@
 -- What a segment adds to a direction.
-use Rattle.std.proofs.Common.{◌≡◌, ◌≤◌, ◌<◌, ◌+◌, ◌^◌, ℕ, zero, suc, List, [], ◌∷◌, ◌++◌, length, get_or, Bor, IfNone, IfSome, Option, None, Some, refl, sym, ◌∙◌, ap, subst, arith, length-append}
-use Rattle.std.specs.List.{All}
+use Rattle.std.proofs.Common.{◌≡◌, ◌≤◌, ◌<◌, ◌+◌, ◌^◌, ℕ, suc, List, [], ◌∷◌, ◌++◌, length, Bor, IfNone, IfSome, Option, None, Some, refl, sym, ◌∙◌, ap, subst, arith, length-append}
 use Rattle.std.proofs.lemmas.List.{get_or_append_left, get_or_push}
 use Rattle.jdwp_recording.specs.declared.assembly.Piece.{Piece}
 use Rattle.jdwp_recording.specs.declared.direction.Direction.{Direction}
 use Rattle.jdwp_recording.specs.declared.packets.Segment.{Segment}
 use Rattle.jdwp_recording.specs.declared.sequence.Mark.{Mark}
 use Rattle.jdwp_recording.specs.Assemblies.{Stands, part_of}
-use Rattle.jdwp_recording.specs.Directions.{Knows, KnowsAt}
+use Rattle.jdwp_recording.specs.Directions.{Knows}
 use Rattle.jdwp_recording.specs.SequenceNumbers.{number_at, AreNear}
 use Rattle.jdwp_recording.specs.Sides.{ArePlaced, AreGiven, StandsAt, data_at, parts_from, place_before}
-use Rattle.jdwp_recording.specs.Streams.{Part, IsAssembled, end_of}
+use Rattle.jdwp_recording.specs.Streams.{Part, IsAssembled}
 
 abbrev data_by : ℕ → List ℕ → Part
 data_by place bytes = record { place = place; bytes = bytes }

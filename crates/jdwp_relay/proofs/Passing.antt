@@ -1,5 +1,5 @@
 -- Of what is under way, what one call keeps.
-use Rattle.std.proofs.Common.{◌≡◌, ◌⊎◌, inl, inr, ℕ, ◌≤◌, List, [], ◌∷◌, ◌++◌, take, drop, Bool, true, false, Option, None, Some, Result, Ok, Err, refl, sym, ap, ◌∙◌, append_assoc, take-append-drop}
+use Rattle.std.proofs.Common.{◌≡◌, ◌⊎◌, inl, inr, ℕ, ◌≤◌, List, [], ◌∷◌, ◌++◌, take, drop, Bool, true, false, Option, Result, Ok, Err, refl, sym, ap, ◌∙◌, append_assoc, take-append-drop}
 use Rattle.std.specs.Prelude.{◌&&◌, length, nat_lt, if◌then◌else◌}
 use Rattle.jdwp_relay.specs.declared.duct.Stage.{Stage}
 use Rattle.jdwp_relay.specs.declared.duct.Stage.TheVariants as stage
@@ -10,7 +10,7 @@ use Rattle.jdwp_relay.specs.declared.sides.Ending.{Ending}
 use Rattle.jdwp_relay.specs.declared.sides.Ending.TheVariants.{HalfClose, Reset}
 use Rattle.jdwp_relay.specs.declared.sides.Took.{Took}
 use Rattle.jdwp_relay.specs.declared.sides.Took.TheVariants as took
-use Rattle.jdwp_relay.specs.Ducts.{ComesIn, Drains, Ends, HandsOn, TakesIn}
+use Rattle.jdwp_relay.specs.Ducts.{Drains, Ends, HandsOn, TakesIn}
 use Rattle.jdwp_relay.specs.Flows.{Inflow, Outflow, asked, offered}
 use Rattle.jdwp_relay.specs.Passages.{HasEnded, IsEndingOf, IsPassed, Passage, hands_on, is_open, is_some_byte, is_under_way, reads_on, room, turned}
 

@@ -1,5 +1,5 @@
 -- Pieces of a buffer that is written behind them.
-use Rattle.std.proofs.Common.{◌≡◌, ℕ, ◌<◌, ◌≤◌, ◌+◌, ◌-◌, List, [], ◌++◌, length, take, drop, refl, sym, ap, ◌∙◌, arith, append_assoc, length-take, length-drop}
+use Rattle.std.proofs.Common.{◌≡◌, ℕ, ◌<◌, ◌≤◌, ◌+◌, ◌-◌, List, [], ◌++◌, length, take, drop, sym, ap, ◌∙◌, arith, length-take, length-drop}
 use Rattle.std.proofs.Math.Seq.{take-append-add}
 use Rattle.std.proofs.lemmas.List.{drop-append-le, drop-drop, drop-take, take-append-le}
 use Rattle.std.proofs.lemmas.Grind.{common_steps}
@@ -7,7 +7,7 @@ use Rattle.std.proofs.lemmas.List.Edits.{take-paste}
 use Rattle.std.specs.List.{copy_within}
 use Rattle.jdwp_relay.specs.declared.sides.Came.{Came}
 use Rattle.jdwp_relay.specs.declared.sides.Came.TheVariants as came
-use Rattle.jdwp_relay.specs.Flows.{Fits, Inflow, after_read, count_of, with_bytes}
+use Rattle.jdwp_relay.specs.Flows.{Fits, Inflow, after_read, count_of}
 use Rattle.jdwp_relay.specs.Passages.{Passage}
 use Rattle.jdwp_relay.specs.Ducts.{ReadsMore}
 use Rattle.jdwp_relay.specs.declared.duct.Stage.{Stage}

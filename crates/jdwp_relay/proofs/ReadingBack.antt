@@ -1,17 +1,17 @@
 -- Lines that were written read again as those lines.
-use Rattle.std.proofs.Common.{◌≡◌, ◌⊎◌, ℕ, zero, suc, ◌<◌, ◌≤◌, ◌+◌, ◌-◌, List, [], ◌∷◌, ◌++◌, length, Bool, true, false, cond, eqb, get_or, Option, None, Some, refl, sym, ap, ◌∙◌, append_assoc, arith, eq-eqb}
+use Rattle.std.proofs.Common.{◌≡◌, ◌⊎◌, ℕ, zero, suc, ◌<◌, ◌≤◌, ◌+◌, ◌-◌, List, [], ◌∷◌, ◌++◌, length, true, false, cond, get_or, None, Some, refl, sym, ap, ◌∙◌, append_assoc, arith, eq-eqb}
 use Rattle.std.specs.Prelude.{All, ◌==◌, if◌then◌else◌, is_some}
 use Rattle.std.specs.List.{filter_map, slice_split, take_while}
 use Rattle.std.specs.Str.Lines.{lines, lines_of_parts, strip_carriage_return}
-use Rattle.std.proofs.lemmas.List.Elements.{All-append, All-head, All-tail}
+use Rattle.std.proofs.lemmas.List.Elements.{All-head, All-tail}
 use Rattle.std.proofs.lemmas.List.Splits.{length-slice_split}
 use Rattle.std.proofs.lemmas.List.Sums.{take_while-cons}
-use Rattle.hex.specs.Hex.{IsBytes, decode_of, encode_lower, encode_with, lower_digits}
+use Rattle.hex.specs.Hex.{IsBytes, encode_lower, encode_with, lower_digits}
 use Rattle.hex.proofs.HexLemmas.{decode_of-encode_lower}
 use Rattle.jdwp_show.specs.declared.capture_line.Sender.{Sender}
 use Rattle.jdwp_show.specs.declared.capture_line.Sender.TheVariants.{Debugger, Target}
-use Rattle.jdwp_show.specs.Lines.{Line, bad_line, capture_of, is_same, line_by, line_of, lines_that_read, reads, sent_by}
-use Rattle.jdwp_relay.specs.LineText.{IsLine, line_text, lines_text, mark_of}
+use Rattle.jdwp_show.specs.Lines.{Line, bad_line, capture_of, line_by, line_of, lines_that_read, reads}
+use Rattle.jdwp_relay.specs.LineText.{IsLine, lines_text, mark_of}
 
 -- ---- no digit ends a line
 

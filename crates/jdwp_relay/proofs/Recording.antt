@@ -1,5 +1,5 @@
 -- Both directions, and the lines of what came.
-use Rattle.std.proofs.Common.{◌≡◌, ◌⊎◌, inl, inr, ℕ, ◌<◌, ◌≤◌, List, [], ◌∷◌, ◌++◌, length, take, Bool, true, false, Option, None, Some, Result, Ok, Err, refl, sym, ap, subst, ◌∙◌, append_assoc, append-nil, arith}
+use Rattle.std.proofs.Common.{◌≡◌, ◌⊎◌, inl, inr, ℕ, ◌<◌, ◌≤◌, List, [], ◌∷◌, ◌++◌, length, take, Bool, Option, Result, Ok, Err, refl, sym, ap, subst, ◌∙◌, append-nil, arith}
 use Rattle.std.specs.Prelude.{All, if◌then◌else◌}
 use Rattle.std.specs.Io.KnownBytes.{Appends}
 use Rattle.std.proofs.KnownBytes.{Appends-nil, Appends-trans}
@@ -19,7 +19,7 @@ use Rattle.jdwp_relay.specs.Flows.{Inflow, Outflow}
 use Rattle.jdwp_show.specs.Lines.{Line, is_same, sent_by}
 use Rattle.jdwp_relay.specs.LineText.{line_text, lines_text}
 use Rattle.jdwp_relay.specs.Passages.{IsPassed, Passage, reads_on}
-use Rattle.jdwp_relay.specs.Relays.{Crossing, HasTurned, IsCovered, IsFront, IsRecorded, IsRelaying, Passes, PassesOn, PassesUp, PassesDown, StandsStill, heeding}
+use Rattle.jdwp_relay.specs.Relays.{Crossing, HasTurned, IsCovered, IsRecorded, IsRelaying, Passes, PassesUp, PassesDown, heeding}
 use Rattle.jdwp_relay.proofs.Passing.{bytes_asked, passed_by_handing, passed_by_reading, passed_by_turning}
 
 -- ---- the sender stays

@@ -1,23 +1,22 @@
 -- Proofs that where a script with no fault begins, each thread can make its steps, whatever is done to the machine from there.
-use Rattle.std.proofs.Common.{◌≡◌, ◌⊎◌, ℕ, zero, suc, ◌+◌, ◌<◌, ◌≤◌, ◌==◌, ◌||◌, ◌&&◌, Bool, true, false, not, cond, if◌then◌else◌, List, [], ◌∷◌, ◌++◌, map, length, refl, sym, ◌∙◌, ap, subst, arith, Option, Some, None, inl, inr}
+use Rattle.std.proofs.Common.{◌≡◌, ◌⊎◌, ℕ, zero, suc, ◌+◌, ◌<◌, ◌≤◌, ◌==◌, ◌||◌, ◌&&◌, Bool, true, false, not, cond, if◌then◌else◌, List, [], ◌∷◌, ◌++◌, map, length, refl, sym, ◌∙◌, ap, arith, Some, None, inl, inr}
 use Rattle.std.proofs.lemmas.Bool.{eqb-true, eq-eqb, false≢true}
 use Rattle.std.specs.List.{list_any, flat_map, AllByRecursion, IsDistinct}
-use Rattle.jdwp_script.specs.Parts.{GroupPart, ClassPart, ObjectPart, StepPart, Call, Go, Return, Throwing, Prepare, Start, Again, ThreadPart, ScriptPart}
+use Rattle.jdwp_script.specs.Parts.{ClassPart, StepPart, Call, Go, Return, Throwing, Prepare, Start, Again, ThreadPart, ScriptPart}
 use Rattle.jdwp_script.specs.Limits.{over, is_long, is_in, started_by, started, group_passes, class_passes, object_passes, step_passes, is_deep, thread_passes, passes_limit}
-use Rattle.jdwp_script.specs.References.{nothing, Known, known_in, groups_lost, types_lost, class_lost, object_lost, step_lost, frames_left, steps_lost, loop_lost, thread_lost, module_lost, group_class_lost, thread_class_lost, has_bad_reference}
+use Rattle.jdwp_script.specs.References.{nothing, Known, known_in, groups_lost, types_lost, class_lost, object_lost, step_lost, frames_left, steps_lost, loop_lost, thread_lost, module_lost, group_class_lost, thread_class_lost}
 use Rattle.jdwp_script.specs.Twice.{shared_ids, class_ids, is_twice, has_id_twice}
 use Rattle.jdwp_script.specs.Faults.{first_fault}
 use Rattle.jdwp_value.specs.Rising.{rising}
 use Rattle.jdwp_script_machine.specs.LookUps.{with_id}
-use Rattle.jdwp_script_machine.specs.States.{Life, Waits, Lives, ThreadNow, State, has_begun, begun, may_begin, class_arranged, arranged, some_step, starts_thread, opening_thread, opening}
+use Rattle.jdwp_script_machine.specs.States.{Waits, Lives, ThreadNow, has_begun, begun, may_begin, class_arranged, arranged, some_step, starts_thread, opening_thread, opening}
 use Rattle.jdwp_script_machine.specs.Sites.{thread_in}
-use Rattle.jdwp_script_machine.specs.Sound.{IsSound, thread_ids}
+use Rattle.jdwp_script_machine.specs.Sound.{thread_ids}
 use Rattle.jdwp_script_machine.specs.StateLaws.{either, has_id}
 use Rattle.jdwp_script_machine.specs.OpeningLaws.{neither, none_passes, with_both, with_each, all_rising, distinct_all, distinct_rising, opening_sound}
-use Rattle.jdwp_script_machine.specs.SoundLaws.{all_found}
 use Rattle.jdwp_script_machine.specs.Runs.{Deed, after_all, MayAllBe, CanGoOn, goes_round, NeverRunsOut}
 use Rattle.jdwp_script_machine.proofs.CanSteps.{AreApart, any_map, not_false, CanMakeAll, can_make_all}
-use Rattle.jdwp_script_machine.proofs.Going.{steps_left, left, starts_left, StandsIn, Goes, IsMade, IsGoing, can_go_on, never_runs_out}
+use Rattle.jdwp_script_machine.proofs.Going.{starts_left, StandsIn, Goes, IsMade, IsGoing, can_go_on, never_runs_out}
 use Rattle.jdwp_script_machine.proofs.Loops.{starts, begins}
 use Rattle.jdwp_script_machine.proofs.GoingOn.{going_after_all}
 use Rattle.jdwp_script_machine.proofs.Openings.{total, total_rising, any_rising, starts_at_opening, faultless}

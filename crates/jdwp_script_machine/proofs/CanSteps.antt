@@ -1,14 +1,13 @@
 -- Proofs about the steps of a script with no fault: each can be made where those before it were.
-use Rattle.std.proofs.Common.{◌≡◌, ℕ, ◌+◌, ◌-◌, ◌<◌, ◌≤◌, ◌==◌, ◌||◌, ◌&&◌, Bool, true, false, not, nat_lt, nat_le, cond, if◌then◌else◌, List, [], ◌∷◌, ◌++◌, map, take, length, refl, sym, ◌∙◌, ap, ap₂, arith, Option, Some, None, option_map, option_and_then, inl, inr}
-use Rattle.std.specs.Prelude.{is_some, unwrap_or, slice_get}
+use Rattle.std.proofs.Common.{◌≡◌, ℕ, ◌+◌, ◌-◌, ◌<◌, ◌≤◌, ◌==◌, ◌||◌, ◌&&◌, Bool, true, false, not, nat_lt, if◌then◌else◌, List, [], ◌∷◌, ◌++◌, map, length, refl, sym, ◌∙◌, ap, ap₂, arith, Option, Some, None, option_map, option_and_then, inl, inr}
+use Rattle.std.specs.Prelude.{is_some, unwrap_or}
 use Rattle.std.proofs.lemmas.Bool.{ltb-false, eqb-true, eq-eqb, false≢true}
 use Rattle.std.proofs.lemmas.List.{length-append, length-take-le}
 use Rattle.std.specs.List.{list_any, AllByRecursion, IsDistinct}
-use Rattle.jdwp_value.specs.Values.{is_object}
-use Rattle.jdwp_script.specs.Parts.{MethodPart, ClassPart, ObjectPart, CallPart, StepPart, Call, Go, Return, Throwing, Prepare, Start, Again, ThreadPart, ScriptPart}
-use Rattle.jdwp_script.specs.Limits.{if_there, is_in, frames_after, is_deep}
-use Rattle.jdwp_script.specs.References.{Lasts, with_method, with_methods, with_classes, no_methods, Known, known_in, is_lost, literal_lost, newest, is_past, slot_value_lost, slot_twice, place_lost, step_lost, frames_left, steps_lost}
-use Rattle.jdwp_script.specs.Twice.{object_ids, class_ids, thread_ids}
+use Rattle.jdwp_script.specs.Parts.{MethodPart, ClassPart, ObjectPart, StepPart, Call, Go, Return, Throwing, Prepare, Start, Again, ScriptPart}
+use Rattle.jdwp_script.specs.Limits.{is_in, frames_after, is_deep}
+use Rattle.jdwp_script.specs.References.{Lasts, with_method, with_methods, with_classes, no_methods, Known, known_in, literal_lost, newest, is_past, step_lost, frames_left, steps_lost}
+use Rattle.jdwp_script.specs.Twice.{object_ids, class_ids}
 use Rattle.jdwp_value.specs.Rising.{rising}
 use Rattle.jdwp_script_machine.specs.LookUps.{with_id}
 use Rattle.jdwp_script_machine.specs.States.{class_arranged, arranged}

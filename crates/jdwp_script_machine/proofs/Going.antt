@@ -1,10 +1,10 @@
 -- What holds of the threads of a script with no fault wherever they come: the next step can be made and those behind it, each thread is
 -- started by one of them at most, and who is started by one waits.
-use Rattle.std.proofs.Common.{◌≡◌, ℕ, zero, suc, ◌+◌, ◌-◌, ◌<◌, ◌≤◌, ◌==◌, ◌||◌, ◌&&◌, Bool, true, false, not, nat_lt, cond, if◌then◌else◌, List, [], ◌∷◌, ◌++◌, map, take, drop, length, refl, sym, ◌∙◌, ap, ap₂, subst, arith, add-one, Option, Some, None, option_map, option_and_then, ◌⊎◌, inl, inr}
+use Rattle.std.proofs.Common.{◌≡◌, ℕ, zero, suc, ◌+◌, ◌-◌, ◌<◌, ◌≤◌, ◌==◌, ◌||◌, ◌&&◌, Bool, true, false, not, nat_lt, if◌then◌else◌, List, [], ◌∷◌, ◌++◌, take, drop, length, refl, sym, ◌∙◌, ap, arith, add-one, Option, Some, None, option_map, option_and_then, ◌⊎◌, inl, inr}
 use Rattle.std.specs.Prelude.{is_some, slice_get}
 use Rattle.std.proofs.lemmas.Bool.{eqb-true, eqb-false, eq-eqb, false≢true, lt-ltb}
-use Rattle.std.specs.List.{list_any, AllByRecursion, IsDistinct}
-use Rattle.jdwp_event.specs.Occurrences.{OccurrenceMeaning, Moved, Entered, Left, Threw, Prepared, Started, PlaceMeaning, is_run_out, runs_out}
+use Rattle.std.specs.List.{AllByRecursion, IsDistinct}
+use Rattle.jdwp_event.specs.Occurrences.{OccurrenceMeaning, Moved, Entered, Left, Threw, Prepared, PlaceMeaning, is_run_out, runs_out}
 use Rattle.jdwp_machine.specs.Meanings.{has}
 use Rattle.jdwp_script.specs.declared.step.Throw.{Throw}
 use Rattle.jdwp_script.specs.Literals.{literal_value}
@@ -18,7 +18,7 @@ use Rattle.jdwp_script_machine.specs.Steps.{next_step, goes_on_at, called, moved
 use Rattle.jdwp_script_machine.specs.Sound.{thread_ids}
 use Rattle.jdwp_script_machine.specs.StateLaws.{either, in_life, has_living}
 use Rattle.jdwp_script_machine.specs.SoundLaws.{all_found, found_id}
-use Rattle.jdwp_script_machine.specs.Runs.{CanGoOn, HasUsedUp, is_back, goes_round, NeverRunsOut}
+use Rattle.jdwp_script_machine.specs.Runs.{CanGoOn, is_back, goes_round, NeverRunsOut}
 use Rattle.jdwp_script_machine.proofs.CanSteps.{CanMake, CanMakeAll}
 use Rattle.jdwp_script_machine.proofs.Openings.{total}
 use Rattle.jdwp_script_machine.proofs.Loops.{starts, frames_behind, get_within, frames_next, lands}

@@ -4,11 +4,11 @@ use Rattle.jdwp_wire.specs.declared.error_code.ErrorCode.{ErrorCode}
 use Rattle.jdwp_wire.specs.ErrorCodes.{INVALID_OBJECT, INVALID_CLASS, INVALID_METHODID, NOT_IMPLEMENTED}
 use Rattle.jdwp_wire.specs.Widths.{Widths}
 use Rattle.jdwp_layout.specs.declared.answer.Answer.TheVariants.{Data, Error}
-use Rattle.jdwp_layout.specs.CommandNumbers.{is_command}
+use Rattle.jdwp_layout.specs.CommandNumbers.{is_command, CLASS_INVOKE, INTERFACE_INVOKE, OBJECT_INVOKE}
 use Rattle.jdwp_layout.specs.Meanings.{ScalarMeaning, Raw}
 use Rattle.jdwp_layout.specs.Writes.{data_canonical, data_refusal}
 use Rattle.jdwp_machine.specs.declared.profile.Profile.TheVariants.{Jdi}
-use Rattle.jdwp_machine.specs.Invocations.{CLASS_INVOKE, INTERFACE_INVOKE, OBJECT_INVOKE, invocation_reply}
+use Rattle.jdwp_layout.specs.Invocations.{invocation_reply}
 use Rattle.jdwp_script.specs.declared.step.Literal.{Literal}
 use Rattle.jdwp_script.specs.Literals.{literal_value}
 use Rattle.jdwp_script.specs.Parts.{ClassPart, MethodPart, ScriptPart}

@@ -1,13 +1,13 @@
 -- Proofs about a list of steps that ends with an `again`: where it goes back to, the frames are as many, as many steps that start a thread
 -- are left, and a step stands that is made.
-use Rattle.std.proofs.Common.{◌≡◌, ℕ, zero, suc, ◌+◌, ◌-◌, ◌<◌, ◌≤◌, ◌==◌, ◌||◌, ◌&&◌, Bool, true, false, not, nat_lt, cond, List, [], ◌∷◌, ◌++◌, take, drop, length, refl, sym, ◌∙◌, ap, arith, add-one, Option, Some, None, inl, inr}
+use Rattle.std.proofs.Common.{◌≡◌, ℕ, zero, suc, ◌+◌, ◌-◌, ◌<◌, ◌≤◌, ◌==◌, ◌||◌, ◌&&◌, true, false, nat_lt, cond, List, [], ◌∷◌, ◌++◌, take, drop, length, refl, sym, ◌∙◌, ap, arith, add-one, Option, Some, None, inl, inr}
 use Rattle.std.specs.Prelude.{slice_get}
 use Rattle.std.proofs.lemmas.Bool.{eqb-true, eqb-false, ltb-false, ltb-true, false≢true}
 use Rattle.std.proofs.lemmas.List.{length-take-le}
 use Rattle.std.specs.List.{list_any}
 use Rattle.jdwp_script.specs.Parts.{StepPart, Call, Go, Return, Throwing, Prepare, Start, Again}
 use Rattle.jdwp_script.specs.Limits.{frames_after}
-use Rattle.jdwp_script.specs.References.{goes_back, is_once, returns_own, last_steps, again_lost, last_lost, before_last, loop_lost}
+use Rattle.jdwp_script.specs.References.{goes_back, is_once, returns_own, last_steps, again_lost, before_last, loop_lost}
 use Rattle.jdwp_script_machine.specs.States.{starts_thread}
 use Rattle.jdwp_script_machine.specs.Steps.{goes_on_at}
 use Rattle.jdwp_script_machine.specs.Runs.{is_back}

@@ -1,9 +1,8 @@
 -- Proofs about the threads that live where a script begins.
-use Rattle.std.proofs.Common.{◌≡◌, ℕ, suc, ◌+◌, ◌≤◌, ◌==◌, ◌||◌, Bool, true, false, not, nat_le, cond, if◌then◌else◌, List, [], ◌∷◌, ◌++◌, map, length, refl, sym, ◌∙◌, ap, ap₂, arith, Option, Some, None, inl, inr}
-use Rattle.std.proofs.lemmas.Bool.{ltb-false, eqb-false, false≢true}
+use Rattle.std.proofs.Common.{◌≡◌, ℕ, ◌+◌, ◌≤◌, ◌==◌, ◌||◌, Bool, true, false, not, nat_le, cond, if◌then◌else◌, List, [], ◌∷◌, ◌++◌, map, length, refl, sym, ◌∙◌, ap, ap₂, arith, Some, None, inl, inr}
+use Rattle.std.proofs.lemmas.Bool.{ltb-false, eqb-false}
 use Rattle.std.proofs.lemmas.List.Folds.{list_any-append}
 use Rattle.std.specs.List.{list_any, filter, flat_map}
-use Rattle.jdwp_script.specs.declared.fault.ScriptFault.{ScriptFault}
 use Rattle.jdwp_script.specs.declared.fault.ScriptFault.TheVariants.{IdTwice, IdTooWide, BadReference, OverLimit}
 use Rattle.jdwp_script.specs.Parts.{StepPart, Call, Go, Return, Throwing, Prepare, Start, Again, ThreadPart, ScriptPart}
 use Rattle.jdwp_script.specs.Limits.{over, is_long, is_in, started_by, started, group_passes, class_passes, object_passes, thread_passes, module_passes, passes_limit}
@@ -13,7 +12,7 @@ use Rattle.jdwp_script.specs.References.{nothing, known_in, groups_lost, types_l
 use Rattle.jdwp_script.specs.Twice.{is_twice, has_id_twice}
 use Rattle.jdwp_script.specs.TooWide.{has_wide_id}
 use Rattle.jdwp_value.specs.Rising.{put_in, rising}
-use Rattle.jdwp_script_machine.specs.States.{ThreadNow, State, living, starts_thread, some_step, opening_thread, opening, Waits, Lives, arranged}
+use Rattle.jdwp_script_machine.specs.States.{living, starts_thread, some_step, opening_thread, opening, arranged}
 use Rattle.jdwp_script_machine.specs.StateLaws.{either}
 use Rattle.jdwp_script_machine.specs.OpeningLaws.{neither}
 

@@ -1,7 +1,6 @@
 -- What a machine answers to a command that changes nothing.
 use Rattle.std.specs.Prelude.{ℕ, ◌==◌, if◌then◌else◌}
 use Rattle.jdwp_wire.specs.ErrorCodes.{NOT_IMPLEMENTED}
-use Rattle.jdwp_layout.specs.declared.answer.Answer.{Answer}
 use Rattle.jdwp_layout.specs.declared.answer.Answer.TheVariants.{Error}
 use Rattle.jdwp_layout.specs.CommandNumbers.{VIRTUAL_MACHINE, REFERENCE_TYPE, CLASS_TYPE, METHOD, OBJECT_REFERENCE, STRING_REFERENCE, THREAD_REFERENCE, THREAD_GROUP_REFERENCE, ARRAY_REFERENCE, EVENT_REQUEST, STACK_FRAME, MODULE_REFERENCE, SET_REQUEST}
 use Rattle.jdwp_script_machine.specs.States.{State}

@@ -1,5 +1,5 @@
 -- The answers about classes and methods by what is asked, and what the code's look-ups and readings of data find.
-use Rattle.std.specs.Prelude.{false, true, Bool, List, [], ◌∷◌, map, Option, Some, None}
+use Rattle.std.specs.Prelude.{false, List, [], ◌∷◌, map, Option, Some, None}
 use Rattle.std.specs.Borrow.{Bor}
 use Rattle.std.specs.Global.{Vec}
 use Rattle.jdwp_wire.specs.ErrorCodes.{ILLEGAL_ARGUMENT}

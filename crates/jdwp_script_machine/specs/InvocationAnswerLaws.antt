@@ -5,10 +5,10 @@ use Rattle.jdwp_wire.specs.Widths.{Widths}
 use Rattle.jdwp_wire.specs.declared.data_fault.DataFault.{DataFault}
 use Rattle.jdwp_layout.specs.declared.answer.Answer.{Answer}
 use Rattle.jdwp_layout.specs.declared.answer.Answer.TheVariants.{Data, Error}
-use Rattle.jdwp_layout.specs.CommandNumbers.{CommandNumber, is_command}
+use Rattle.jdwp_layout.specs.CommandNumbers.{CommandNumber, is_command, CLASS_INVOKE, INTERFACE_INVOKE, OBJECT_INVOKE}
 use Rattle.jdwp_layout.specs.Meanings.{Object, DatumMeaning, One, Raw}
 use Rattle.jdwp_layout.specs.Writes.{data_canonical, data_refusal}
-use Rattle.jdwp_machine.specs.Invocations.{CLASS_INVOKE, INTERFACE_INVOKE, OBJECT_INVOKE, invocation_reply}
+use Rattle.jdwp_layout.specs.Invocations.{invocation_reply}
 use Rattle.jdwp_script.specs.declared.step.Literal.{Literal}
 use Rattle.jdwp_script.specs.Literals.{literal_value}
 use Rattle.jdwp_script.specs.Parts.{ClassPart, MethodPart}

@@ -10,10 +10,10 @@ use Rattle.jdwp_value.specs.declared.value.Value.{Value}
 use Rattle.jdwp_value.specs.Values.{object_id}
 use Rattle.jdwp_layout.specs.declared.answer.Answer.{Answer}
 use Rattle.jdwp_layout.specs.declared.answer.Answer.TheVariants.{Data, Error}
-use Rattle.jdwp_layout.specs.CommandNumbers.{is_command}
+use Rattle.jdwp_layout.specs.CommandNumbers.{is_command, CLASS_INVOKE, INTERFACE_INVOKE, OBJECT_INVOKE}
 use Rattle.jdwp_layout.specs.Meanings.{Int, Object, Tagged, Valued, DatumMeaning, One, Many, Raw}
 use Rattle.jdwp_layout.specs.Writes.{data_canonical, data_refusal}
-use Rattle.jdwp_machine.specs.Invocations.{CLASS_INVOKE, INTERFACE_INVOKE, OBJECT_INVOKE, invocation_reply}
+use Rattle.jdwp_layout.specs.Invocations.{invocation_reply}
 use Rattle.jdwp_script.specs.declared.step.Literal.{Literal}
 use Rattle.jdwp_script.specs.Literals.{literal_value}
 use Rattle.jdwp_script.specs.Parts.{ClassPart, MethodPart, ScriptPart}

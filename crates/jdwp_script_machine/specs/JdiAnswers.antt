@@ -6,10 +6,9 @@ use Rattle.jdwp_value.specs.declared.tag.ObjectTag.TheVariants as kind
 use Rattle.jdwp_value.specs.Values.{object_id}
 use Rattle.jdwp_layout.specs.declared.answer.Answer.{Answer}
 use Rattle.jdwp_layout.specs.declared.answer.Answer.TheVariants.{Data, Error}
-use Rattle.jdwp_layout.specs.CommandNumbers.{is_command, OBJECT_TYPE, ALL_MODULES, CLASS_MODULE, MODULE_NAME, MODULE_CLASS_LOADER}
+use Rattle.jdwp_layout.specs.CommandNumbers.{is_command, OBJECT_TYPE, ALL_MODULES, CLASS_MODULE, MODULE_NAME, MODULE_CLASS_LOADER, CLASS_PATHS, CONTENDED_MONITOR, OWNED_MONITORS, SOURCE_DEBUG_EXTENSION}
 use Rattle.jdwp_layout.specs.Meanings.{ScalarMeaning, Text, Object, Tagged, DatumMeaning, One, Many, Raw}
 use Rattle.jdwp_layout.specs.Writes.{data_canonical}
-use Rattle.jdwp_machine.specs.Profiles.{CLASS_PATHS, SOURCE_DEBUG_EXTENSION, OWNED_MONITORS, CONTENDED_MONITOR}
 use Rattle.jdwp_script.specs.Parts.{GroupPart, ClassPart, ObjectPart, ThreadPart, ModulePart, ScriptPart}
 use Rattle.jdwp_script_machine.specs.States.{State}
 use Rattle.jdwp_script_machine.specs.Sites.{class_in, group_in, thread_in}

@@ -1,7 +1,7 @@
 -- Making a string (JDWP specification, "VirtualMachine": CreateString).
 use Rattle.std.specs.Prelude.{ℕ, ◌+◌, ◌&&◌, Bool, List, [], ◌∷◌, ◌++◌, length, nat_lt, codes, if◌then◌else◌, Option, Some, None, Result, Ok, Err}
 use Rattle.jdwp_wire.specs.declared.error_code.ErrorCode.{ErrorCode}
-use Rattle.jdwp_wire.specs.ErrorCodes.{NOT_IMPLEMENTED}
+use Rattle.jdwp_wire.specs.ErrorCodes.{NOT_IMPLEMENTED, OUT_OF_MEMORY}
 use Rattle.jdwp_wire.specs.Numbers.{fits_int}
 use Rattle.jdwp_layout.specs.declared.answer.Answer.{Answer}
 use Rattle.jdwp_layout.specs.declared.answer.Answer.TheVariants.{Data, Error}
@@ -9,10 +9,6 @@ use Rattle.jdwp_layout.specs.Meanings.{Object, One}
 use Rattle.jdwp_script.specs.Parts.{ClassPart, ObjectPart, ScriptPart}
 use Rattle.jdwp_script_machine.specs.States.{State}
 use Rattle.jdwp_script_machine.specs.JdiAnswers.{class_signed, greatest_id, is_id}
-
--- there is no more memory available ("Error Constants")
-abbrev pub OUT_OF_MEMORY : ErrorCode
-OUT_OF_MEMORY = record { 0 = 110 }
 
 -- a machine makes no more strings than these
 abbrev pub MADE_LIMIT : ℕ

@@ -3,18 +3,18 @@ use Rattle.std.proofs.Common.{◌≡◌, ℕ, suc, ◌+◌, ◌^◌, ◌<◌, �
 use Rattle.std.proofs.lemmas.Bool.{ltb-true}
 use Rattle.std.specs.List.{AllByRecursion}
 use Rattle.jdwp_wire.specs.declared.error_code.ErrorCode.{ErrorCode}
-use Rattle.jdwp_wire.specs.ErrorCodes.{NOT_IMPLEMENTED}
+use Rattle.jdwp_wire.specs.ErrorCodes.{NOT_IMPLEMENTED, OUT_OF_MEMORY}
 use Rattle.jdwp_wire.specs.Numbers.{fits_int}
 use Rattle.jdwp_wire.specs.Text.{text_refusal}
 use Rattle.jdwp_wire.specs.Widths.{Widths}
+use Rattle.jdwp_layout.specs.CommandNumbers.{CREATE_STRING}
 use Rattle.jdwp_layout.specs.declared.answer.Answer.TheVariants.{Data, Error}
 use Rattle.jdwp_layout.specs.Meanings.{Object, One}
-use Rattle.jdwp_machine.specs.Profiles.{CREATE_STRING}
 use Rattle.jdwp_script.specs.Parts.{ClassPart, ObjectPart, StepPart, Call, Go, Return, Throwing, Prepare, Start, Again}
 use Rattle.jdwp_script_machine.specs.States.{FrameNow, ThreadNow, State, thread_at}
 use Rattle.jdwp_script_machine.specs.Steps.{next, next_step, happening_by, happening_at, happening_of, occurrence}
 use Rattle.jdwp_script_machine.specs.JdiAnswers.{is_id}
-use Rattle.jdwp_script_machine.specs.Made.{OUT_OF_MEMORY, MADE_LIMIT, first_made, next_made, has_room, string_object, string_in, string_class, string_made, answer_of_made, made_answer, with_made, made}
+use Rattle.jdwp_script_machine.specs.Made.{MADE_LIMIT, first_made, next_made, has_room, string_object, string_in, string_class, string_made, answer_of_made, made_answer, with_made, made}
 use Rattle.jdwp_script_machine.specs.Sound.{Fits, ObjectFits, AreCounted, IsSound}
 use Rattle.jdwp_script_machine.specs.GoodAnswers.{Good, error_good, above}
 use Rattle.jdwp_script_machine.specs.FrameLaws.{and_both}

@@ -8,11 +8,10 @@ use Rattle.jdwp_value.specs.declared.location.Location.TheVariants.{Null, At}
 use Rattle.jdwp_value.specs.declared.value.Value.{Value}
 use Rattle.jdwp_value.specs.Values.{tag_of}
 use Rattle.jdwp_layout.specs.declared.answer.Answer.TheVariants.{Data, Error}
-use Rattle.jdwp_layout.specs.CommandNumbers.{is_command, VIRTUAL_MACHINE, REFERENCE_TYPE, CLASS_TYPE, METHOD, OBJECT_REFERENCE, STRING_REFERENCE, THREAD_REFERENCE, THREAD_GROUP_REFERENCE, ARRAY_REFERENCE, EVENT_REQUEST, STACK_FRAME, MODULE_REFERENCE, SET_REQUEST, SET_SLOTS}
+use Rattle.jdwp_layout.specs.CommandNumbers.{is_command, VIRTUAL_MACHINE, REFERENCE_TYPE, CLASS_TYPE, METHOD, OBJECT_REFERENCE, STRING_REFERENCE, THREAD_REFERENCE, THREAD_GROUP_REFERENCE, ARRAY_REFERENCE, EVENT_REQUEST, STACK_FRAME, MODULE_REFERENCE, SET_REQUEST, SET_SLOTS, CREATE_STRING}
 use Rattle.jdwp_layout.specs.Meanings.{Int, DatumMeaning, One}
 use Rattle.jdwp_event.specs.Occurrences.{runs_out, started}
 use Rattle.jdwp_machine.specs.Meanings.{has}
-use Rattle.jdwp_machine.specs.Profiles.{CREATE_STRING}
 use Rattle.jdwp_machine.specs.Laws.{IsLawful, IsMachineError, IsLocationAnswer, breakpoint_at, is_named}
 use Rattle.jdwp_script.specs.Parts.{MethodPart, ClassPart, ScriptPart}
 use Rattle.jdwp_script_machine.specs.LookUps.{with_id}

@@ -1,7 +1,7 @@
 -- A worked machine: two threads, of which the first calls a method, moves in it and returns, and the second has no step; and two modules,
 -- in one of which the class is. And machines with a class of strings, which make some.
 use Rattle.std.specs.Prelude.{◌≡◌, ℕ, ℤ, zero, suc, pos, negsuc, List, [], ◌∷◌, codes, Some, None}
-use Rattle.jdwp_wire.specs.ErrorCodes.{INVALID_CLASS, INVALID_MODULE, INVALID_METHODID, INVALID_LOCATION, INVALID_FRAMEID, TYPE_MISMATCH, INVALID_SLOT, INVALID_INDEX, INVALID_LENGTH, INVALID_OBJECT, INVALID_ARRAY, NOT_IMPLEMENTED}
+use Rattle.jdwp_wire.specs.ErrorCodes.{INVALID_CLASS, INVALID_MODULE, INVALID_METHODID, INVALID_LOCATION, INVALID_FRAMEID, TYPE_MISMATCH, INVALID_SLOT, INVALID_INDEX, INVALID_LENGTH, INVALID_OBJECT, INVALID_ARRAY, NOT_IMPLEMENTED, OUT_OF_MEMORY}
 use Rattle.jdwp_value.specs.declared.location.Location.{Location}
 use Rattle.jdwp_value.specs.declared.location.Location.TheVariants.{Null, At}
 use Rattle.jdwp_value.specs.declared.location.TypeTag.TheVariants.{Class}
@@ -21,7 +21,7 @@ use Rattle.jdwp_script_machine.specs.Steps.{next, stepped, ended}
 use Rattle.jdwp_script_machine.specs.SlotWrites.{write_answer, written}
 use Rattle.jdwp_script_machine.specs.Answers.{answer_at}
 use Rattle.jdwp_script_machine.specs.JdiAnswers.{unnamed_module}
-use Rattle.jdwp_script_machine.specs.Made.{OUT_OF_MEMORY, made_answer, made}
+use Rattle.jdwp_script_machine.specs.Made.{made_answer, made}
 
 -- ---- the machine
 

@@ -13,11 +13,11 @@ use crate::jdi_answers::jdi_answer_at;
 use crate::places::{group_of, object_of, thread_of};
 use crate::replies::of_datum;
 use crate::state::MachineState;
-use jdwp_layout::numbers::{CLASS_TYPE, OBJECT_REFERENCE};
-use jdwp_layout::{Answer, Datum, Scalar, refusal, write};
-use jdwp_machine::invocation::{
-    CLASS_INVOKE, INTERFACE_INVOKE, INTERFACE_TYPE, OBJECT_INVOKE, reply_layout,
+use jdwp_layout::invocation::reply_layout;
+use jdwp_layout::numbers::{
+    CLASS_INVOKE, CLASS_TYPE, INTERFACE_INVOKE, INTERFACE_TYPE, OBJECT_INVOKE, OBJECT_REFERENCE,
 };
+use jdwp_layout::{Answer, Datum, Scalar, refusal, write};
 use jdwp_script::{Class, Literal, Script};
 use jdwp_value::{ObjectId, ObjectTag, TaggedId};
 use jdwp_wire::{DataFault, ErrorCode, IdSizes, NoMemory};

@@ -18,13 +18,11 @@ use crate::replies::{of_datum, of_entries, of_scalar};
 use crate::state::MachineState;
 use crate::unnamed_module::{every_module, module_loader, module_name, module_or_unnamed};
 use jdwp_layout::numbers::{
-    ALL_MODULES, CLASS_MODULE, MODULE_CLASS_LOADER, MODULE_NAME, MODULE_REFERENCE,
-    OBJECT_REFERENCE, OBJECT_TYPE, REFERENCE_TYPE, THREAD_REFERENCE, VIRTUAL_MACHINE,
+    ALL_MODULES, CLASS_MODULE, CLASS_PATHS, CONTENDED_MONITOR, MODULE_CLASS_LOADER, MODULE_NAME,
+    MODULE_REFERENCE, OBJECT_REFERENCE, OBJECT_TYPE, OWNED_MONITORS, REFERENCE_TYPE,
+    SOURCE_DEBUG_EXTENSION, THREAD_REFERENCE, VIRTUAL_MACHINE,
 };
 use jdwp_layout::{Answer, Datum, Scalar};
-use jdwp_machine::profile::{
-    CLASS_PATHS, CONTENDED_MONITOR, OWNED_MONITORS, SOURCE_DEBUG_EXTENSION,
-};
 use jdwp_script::{Class, Script};
 use jdwp_value::{ObjectId, ObjectTag, ReferenceTypeId, TaggedId};
 use jdwp_wire::{ErrorCode, NoMemory};

@@ -1,8 +1,7 @@
 //! Laws: each function says what holds, in its contract, and does nothing; to call it is to cite it.
 ghost use Rattle.std.specs.Prelude.{◌≡◌, ◌||◌, ℕ, ℤ, List, false, true, None, Some};
-ghost use Rattle.jdwp_layout.specs.CommandNumbers.{is_command};
+ghost use Rattle.jdwp_layout.specs.CommandNumbers.{is_command, CLASS_INVOKE, INTERFACE_INVOKE, OBJECT_INVOKE};
 ghost use Rattle.jdwp_layout.specs.Meanings.{ScalarMeaning};
-ghost use Rattle.jdwp_machine.specs.Invocations.{CLASS_INVOKE, INTERFACE_INVOKE, OBJECT_INVOKE};
 ghost use Rattle.jdwp_machine.specs.declared.profile.Profile.TheVariants.{Jdi};
 ghost use Rattle.jdwp_machine.specs.Laws.{IsLawful};
 ghost use Rattle.jdwp_script.specs.Parts.{ClassPart, ScriptPart};

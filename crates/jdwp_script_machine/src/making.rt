@@ -3,7 +3,7 @@ ghost use Rattle.std.specs.Prelude.{◌≡◌, ◌++◌, ◌∷◌, [], map, len
 ghost use Rattle.jdwp_machine.specs.Laws.{takes_memory};
 ghost use Rattle.jdwp_script.specs.Meanings.{object_part, script_part};
 ghost use Rattle.jdwp_script_machine.specs.JdiAnswers.{is_id};
-ghost use Rattle.jdwp_script_machine.specs.Made.{OUT_OF_MEMORY, first_made, id_answer, made, made_answer, made_id, string_object};
+ghost use Rattle.jdwp_script_machine.specs.Made.{first_made, id_answer, made, made_answer, made_id, string_object};
 ghost use Rattle.jdwp_script_machine.specs.StateMeanings.{state_now};
 
 use crate::jdi_answers::class_signed;
@@ -16,9 +16,6 @@ use jdwp_value::{ObjectId, ReferenceTypeId};
 use jdwp_wire::number::{GREATEST_INT, fits};
 use jdwp_wire::{ErrorCode, NoMemory};
 use std::alloc::Global;
-
-/// There is no more memory available.
-const OUT_OF_MEMORY: ErrorCode = ErrorCode(110);
 
 /// No more strings are made than these.
 const MADE_LIMIT: usize = 1_024;
@@ -47,7 +44,7 @@ pub(crate) fn make_string_of(
     };
     match made_id(state, text) {
         Some(id) => add_string(alloc, &mut state.made, text, class, id),
-        None => Ok(Answer::Error(OUT_OF_MEMORY)),
+        None => Ok(Answer::Error(ErrorCode::OUT_OF_MEMORY)),
     }
 }
 

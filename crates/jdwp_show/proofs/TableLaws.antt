@@ -1,8 +1,8 @@
 -- What the tables of commands have in common.
-use Rattle.std.proofs.Common.{◌≡◌, ℕ, ◌==◌, ◌&&◌, Bool, true, false, List, Option, Some, None, is_some, refl, sym, ap, ◌∙◌, inl, inr}
+use Rattle.std.proofs.Common.{◌≡◌, ℕ, ◌==◌, ◌&&◌, Bool, true, false, Option, Some, None, is_some, refl, sym, ap, ◌∙◌, inl, inr}
 use Rattle.std.specs.Option.{option_or}
 use Rattle.std.proofs.lemmas.Bool.{cases_Bool, eqb-true}
-use Rattle.jdwp_layout.specs.CommandNumbers.{is_command}
+use Rattle.jdwp_layout.specs.CommandNumbers.{is_command, CLASS_INVOKE, CLASS_PATHS, INTERFACE_INVOKE, OBJECT_INVOKE}
 use Rattle.jdwp_layout.specs.CommandNumbers as numbers
 use Rattle.jdwp_layout.specs.CommandTable.{row_at}
 use Rattle.jdwp_layout.specs.Rows.{Row, RowShapes}
@@ -11,7 +11,7 @@ use Rattle.jdwp_show.specs.declared.table.Table.{Table}
 use Rattle.jdwp_show.specs.declared.table.Table.TheVariants.{Standard, Jdi}
 use Rattle.jdwp_show.specs.Data.{shapes_in}
 use Rattle.jdwp_show.specs.MessageLines.{name_in}
-use Rattle.jdwp_show.specs.Tables.{CLASS_PATHS, INVOKE_OF_CLASS, INVOKE_OF_INTERFACE, INVOKE_OF_OBJECT, jdi_row_at, row_under}
+use Rattle.jdwp_show.specs.Tables.{jdi_row_at, row_under}
 
 both : (a b : Bool) → (a && b) ≡ true → (a ≡ true) × (b ≡ true)
 both true b h = (refl, h)
@@ -32,12 +32,12 @@ raw k set number shapes P none h e =
 own_none : (set number : ℕ) (shapes : RowShapes) → shapes_in (row_at set number) ≡ Some shapes → jdi_row_at set number ≡ None
 own_none set number shapes e = elim (cases_Bool (is_command CLASS_PATHS set number)) [
   | inl h ↦ raw CLASS_PATHS set number shapes _ refl h e
-  | inr a ↦ elim (cases_Bool (is_command INVOKE_OF_CLASS set number)) [
-    | inl h ↦ raw INVOKE_OF_CLASS set number shapes _ refl h e
-    | inr b ↦ elim (cases_Bool (is_command INVOKE_OF_INTERFACE set number)) [
-      | inl h ↦ raw INVOKE_OF_INTERFACE set number shapes _ refl h e
-      | inr c ↦ elim (cases_Bool (is_command INVOKE_OF_OBJECT set number)) [
-        | inl h ↦ raw INVOKE_OF_OBJECT set number shapes _ refl h e
+  | inr a ↦ elim (cases_Bool (is_command CLASS_INVOKE set number)) [
+    | inl h ↦ raw CLASS_INVOKE set number shapes _ refl h e
+    | inr b ↦ elim (cases_Bool (is_command INTERFACE_INVOKE set number)) [
+      | inl h ↦ raw INTERFACE_INVOKE set number shapes _ refl h e
+      | inr c ↦ elim (cases_Bool (is_command OBJECT_INVOKE set number)) [
+        | inl h ↦ raw OBJECT_INVOKE set number shapes _ refl h e
         | inr d ↦ rw (a, b, c, d) refl
       ]
     ]
@@ -63,12 +63,12 @@ layouts_alike Jdi set number shapes e = ap (λ (r : Option Row). shapes_in r) (j
 jdi_named : (set number : ℕ) (command : CommandNumber) → name_in (row_under Jdi set number) command ≡ name_in (row_at set number) command
 jdi_named set number command = elim (cases_Bool (is_command CLASS_PATHS set number)) [
   | inl h ↦ let is = place CLASS_PATHS set number h in rw (is.0, is.1) refl
-  | inr a ↦ elim (cases_Bool (is_command INVOKE_OF_CLASS set number)) [
-    | inl h ↦ let is = place INVOKE_OF_CLASS set number h in rw (is.0, is.1) refl
-    | inr b ↦ elim (cases_Bool (is_command INVOKE_OF_INTERFACE set number)) [
-      | inl h ↦ let is = place INVOKE_OF_INTERFACE set number h in rw (is.0, is.1) refl
-      | inr c ↦ elim (cases_Bool (is_command INVOKE_OF_OBJECT set number)) [
-        | inl h ↦ let is = place INVOKE_OF_OBJECT set number h in rw (is.0, is.1) refl
+  | inr a ↦ elim (cases_Bool (is_command CLASS_INVOKE set number)) [
+    | inl h ↦ let is = place CLASS_INVOKE set number h in rw (is.0, is.1) refl
+    | inr b ↦ elim (cases_Bool (is_command INTERFACE_INVOKE set number)) [
+      | inl h ↦ let is = place INTERFACE_INVOKE set number h in rw (is.0, is.1) refl
+      | inr c ↦ elim (cases_Bool (is_command OBJECT_INVOKE set number)) [
+        | inl h ↦ let is = place OBJECT_INVOKE set number h in rw (is.0, is.1) refl
         | inr d ↦ rw (a, b, c, d) refl
       ]
     ]

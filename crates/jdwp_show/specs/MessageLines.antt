@@ -15,7 +15,6 @@ use Rattle.jdwp_layout.specs.Reads.{data_at}
 use Rattle.jdwp_show.specs.declared.capture_line.Sender.{Sender}
 use Rattle.jdwp_show.specs.declared.capture_line.Sender.TheVariants.{Debugger, Target}
 use Rattle.jdwp_show.specs.declared.command_number.CommandNumber.{CommandNumber}
-use Rattle.jdwp_show.specs.declared.table.Table.{Table}
 use Rattle.jdwp_show.specs.declared.terms.Terms.{Terms}
 use Rattle.jdwp_show.specs.Data.{shapes_under, layout_fault}
 use Rattle.jdwp_show.specs.DataText.{data_text, raw_text}

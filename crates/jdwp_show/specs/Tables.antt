@@ -1,32 +1,18 @@
 -- The tables of commands by which data are read: the standard's, in which the data of some rows are raw, and that of the profile `jdi`. It has the
 -- same rows, but for four raw ones that a target of that profile answers; these have layouts here (JDWP specification, "VirtualMachine":
 -- ClassPaths; "ClassType", "InterfaceType" and "ObjectReference": InvokeMethod).
-use Rattle.std.specs.Prelude.{ℕ, [], ◌∷◌, Bool, Option, Some, None, if◌then◌else◌, codes}
+use Rattle.std.specs.Prelude.{ℕ, [], ◌∷◌, Option, Some, None, if◌then◌else◌, codes}
 use Rattle.std.specs.Option.{option_or}
 use Rattle.jdwp_wire.specs.Widths.{Widths}
-use Rattle.jdwp_layout.specs.declared.item.Field.TheVariants.{Int, String, ObjectId, ReferenceTypeId, MethodId, Value, TaggedId}
-use Rattle.jdwp_layout.specs.CommandNumbers.{CommandNumber, is_command, VIRTUAL_MACHINE, CLASS_TYPE, OBJECT_REFERENCE}
+use Rattle.jdwp_layout.specs.declared.item.Field.TheVariants.{String}
+use Rattle.jdwp_layout.specs.CommandNumbers.{is_command, CLASS_PATHS, CLASS_INVOKE, INTERFACE_INVOKE, OBJECT_INVOKE}
 use Rattle.jdwp_layout.specs.CommandTable.{row_at}
+use Rattle.jdwp_layout.specs.Invocations.{of_type, of_object, invocation_reply}
 use Rattle.jdwp_layout.specs.Rows.{Row, answered}
 use Rattle.jdwp_layout.specs.Shapes.{Fields, OneOf, ListOf}
 use Rattle.jdwp_show.specs.declared.table.Table.{Table}
 use Rattle.jdwp_show.specs.declared.table.Table.TheVariants.{Standard, Jdi}
 use Rattle.jdwp_show.specs.declared.terms.Terms.{Terms}
-
-abbrev pub CLASS_PATHS : CommandNumber
-CLASS_PATHS = record { set = VIRTUAL_MACHINE; number = 13 }
-
-abbrev pub INVOKE_OF_CLASS : CommandNumber
-INVOKE_OF_CLASS = record { set = CLASS_TYPE; number = 3 }
-
-abbrev pub INTERFACE_TYPE : ℕ
-INTERFACE_TYPE = 5
-
-abbrev pub INVOKE_OF_INTERFACE : CommandNumber
-INVOKE_OF_INTERFACE = record { set = INTERFACE_TYPE; number = 1 }
-
-abbrev pub INVOKE_OF_OBJECT : CommandNumber
-INVOKE_OF_OBJECT = record { set = OBJECT_REFERENCE; number = 6 }
 
 -- told are the base directory, the class paths and the boot class paths
 abbrev pub class_paths_row : Row
@@ -34,23 +20,23 @@ class_paths_row = answered (codes "VirtualMachine") (codes "ClassPaths") [] (One
 
 -- asked are a class, a thread, a method of the class, its arguments and the options; told are the value that was returned and the exception
 abbrev pub invoke_of_class_row : Row
-invoke_of_class_row = answered (codes "ClassType") (codes "InvokeMethod") (OneOf ReferenceTypeId ∷ OneOf ObjectId ∷ OneOf MethodId ∷ ListOf (Fields (Value ∷ [])) ∷ OneOf Int ∷ []) (OneOf Value ∷ OneOf TaggedId ∷ [])
+invoke_of_class_row = answered (codes "ClassType") (codes "InvokeMethod") of_type invocation_reply
 
 -- the same of an interface
 abbrev pub invoke_of_interface_row : Row
-invoke_of_interface_row = answered (codes "InterfaceType") (codes "InvokeMethod") (OneOf ReferenceTypeId ∷ OneOf ObjectId ∷ OneOf MethodId ∷ ListOf (Fields (Value ∷ [])) ∷ OneOf Int ∷ []) (OneOf Value ∷ OneOf TaggedId ∷ [])
+invoke_of_interface_row = answered (codes "InterfaceType") (codes "InvokeMethod") of_type invocation_reply
 
 -- asked are an object, a thread, a class, a method of the class, its arguments and the options
 abbrev pub invoke_of_object_row : Row
-invoke_of_object_row = answered (codes "ObjectReference") (codes "InvokeMethod") (OneOf ObjectId ∷ OneOf ObjectId ∷ OneOf ReferenceTypeId ∷ OneOf MethodId ∷ ListOf (Fields (Value ∷ [])) ∷ OneOf Int ∷ []) (OneOf Value ∷ OneOf TaggedId ∷ [])
+invoke_of_object_row = answered (codes "ObjectReference") (codes "InvokeMethod") of_object invocation_reply
 
 -- the rows of the table `jdi` that are not those of the standard's
 abbrev pub jdi_row_at : ℕ → ℕ → Option Row
 jdi_row_at set number =
     if is_command CLASS_PATHS set number then Some class_paths_row else (
-    if is_command INVOKE_OF_CLASS set number then Some invoke_of_class_row else (
-    if is_command INVOKE_OF_INTERFACE set number then Some invoke_of_interface_row else (
-    if is_command INVOKE_OF_OBJECT set number then Some invoke_of_object_row else None)))
+    if is_command CLASS_INVOKE set number then Some invoke_of_class_row else (
+    if is_command INTERFACE_INVOKE set number then Some invoke_of_interface_row else (
+    if is_command OBJECT_INVOKE set number then Some invoke_of_object_row else None)))
 
 -- the row of a command set and a command in a table
 abbrev pub row_under : Table → ℕ → ℕ → Option Row

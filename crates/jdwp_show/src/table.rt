@@ -5,8 +5,11 @@ ghost use Rattle.jdwp_layout.specs.Rows.{found_row};
 ghost use Rattle.jdwp_show.specs.Data.{shapes_in};
 ghost use Rattle.jdwp_show.specs.Tables.{jdi_row_at, row_under};
 
-use jdwp_layout::numbers::{CLASS_TYPE, OBJECT_REFERENCE, VIRTUAL_MACHINE};
-use jdwp_layout::{CommandRow, Entry, Field, Item, Layout, Layouts, layout_of};
+use jdwp_layout::numbers::{
+    CLASS_INVOKE, CLASS_PATHS, CLASS_TYPE, INTERFACE_INVOKE, INTERFACE_TYPE, OBJECT_INVOKE,
+    OBJECT_REFERENCE, VIRTUAL_MACHINE,
+};
+use jdwp_layout::{CommandRow, Entry, Field, Item, Layout, Layouts, invocation, layout_of};
 
 /// A table of commands.
 #[derive(Clone, Copy, Debug, PartialEq, Eq)]
@@ -18,10 +21,7 @@ pub enum Table {
     Jdi,
 }
 
-/// The command set InterfaceType.
-const INTERFACE_TYPE: u8 = 5;
-
-static CLASS_PATHS: CommandRow = CommandRow {
+static CLASS_PATHS_ROW: CommandRow = CommandRow {
     set_name: "VirtualMachine",
     name: "ClassPaths",
     layouts: Some(Layouts {
@@ -37,63 +37,32 @@ static CLASS_PATHS: CommandRow = CommandRow {
     starred: false,
 };
 
-static INVOKE_OF_CLASS: CommandRow = CommandRow {
+static CLASS_INVOKE_ROW: CommandRow = CommandRow {
     set_name: "ClassType",
     name: "InvokeMethod",
     layouts: Some(Layouts {
-        request: Layout {
-            items: &[
-                Item::One(Field::ReferenceTypeId),
-                Item::One(Field::ObjectId),
-                Item::One(Field::MethodId),
-                Item::Many(Entry::Fields(&[Field::Value])),
-                Item::One(Field::Int),
-            ],
-        },
-        reply: Layout {
-            items: &[Item::One(Field::Value), Item::One(Field::TaggedId)],
-        },
+        request: invocation::OF_TYPE,
+        reply: invocation::REPLY,
     }),
     starred: false,
 };
 
-static INVOKE_OF_INTERFACE: CommandRow = CommandRow {
+static INTERFACE_INVOKE_ROW: CommandRow = CommandRow {
     set_name: "InterfaceType",
     name: "InvokeMethod",
     layouts: Some(Layouts {
-        request: Layout {
-            items: &[
-                Item::One(Field::ReferenceTypeId),
-                Item::One(Field::ObjectId),
-                Item::One(Field::MethodId),
-                Item::Many(Entry::Fields(&[Field::Value])),
-                Item::One(Field::Int),
-            ],
-        },
-        reply: Layout {
-            items: &[Item::One(Field::Value), Item::One(Field::TaggedId)],
-        },
+        request: invocation::OF_TYPE,
+        reply: invocation::REPLY,
     }),
     starred: false,
 };
 
-static INVOKE_OF_OBJECT: CommandRow = CommandRow {
+static OBJECT_INVOKE_ROW: CommandRow = CommandRow {
     set_name: "ObjectReference",
     name: "InvokeMethod",
     layouts: Some(Layouts {
-        request: Layout {
-            items: &[
-                Item::One(Field::ObjectId),
-                Item::One(Field::ObjectId),
-                Item::One(Field::ReferenceTypeId),
-                Item::One(Field::MethodId),
-                Item::Many(Entry::Fields(&[Field::Value])),
-                Item::One(Field::Int),
-            ],
-        },
-        reply: Layout {
-            items: &[Item::One(Field::Value), Item::One(Field::TaggedId)],
-        },
+        request: invocation::OF_OBJECT,
+        reply: invocation::REPLY,
     }),
     starred: false,
 };
@@ -148,10 +117,10 @@ fn own_row(set: u8, command: u8) -> Option<&'static CommandRow>
     ensures { found_row result ≡ jdi_row_at set command }
 {
     match (set, command) {
-        (VIRTUAL_MACHINE, 13) => Some(&CLASS_PATHS),
-        (CLASS_TYPE, 3) => Some(&INVOKE_OF_CLASS),
-        (INTERFACE_TYPE, 1) => Some(&INVOKE_OF_INTERFACE),
-        (OBJECT_REFERENCE, 6) => Some(&INVOKE_OF_OBJECT),
+        (VIRTUAL_MACHINE, CLASS_PATHS) => Some(&CLASS_PATHS_ROW),
+        (CLASS_TYPE, CLASS_INVOKE) => Some(&CLASS_INVOKE_ROW),
+        (INTERFACE_TYPE, INTERFACE_INVOKE) => Some(&INTERFACE_INVOKE_ROW),
+        (OBJECT_REFERENCE, OBJECT_INVOKE) => Some(&OBJECT_INVOKE_ROW),
         _ => None,
     }
 }

@@ -15,7 +15,7 @@ use Rattle.jdwp_end.specs.declared.phase.Phase.TheVariants.{Closed, AwaitingHand
 use Rattle.jdwp_end.specs.Ends.{is_open_phase}
 use Rattle.jdwp_machine.specs.Meanings.{Meaning}
 use Rattle.jdwp_action.specs.Actions
-use Rattle.jdwp_action.specs.Actions.{Action, Carried, Command, Content, Raw, action_by, action_of, clear_action, other_action, set_action, slots_of, thread_action, thread_of, is_dispose}
+use Rattle.jdwp_action.specs.Actions.{Action, Carried, Command, Content, action_by, action_of, clear_action, other_action, set_action, slots_of, thread_action, thread_of, is_dispose}
 use Rattle.jdwp_action.specs.CommandReads.{content_read}
 use Rattle.jdwp_machine.specs.declared.profile.Profile.{Profile}
 use Rattle.jdwp_debuggee.specs.Strings.{makes_string}

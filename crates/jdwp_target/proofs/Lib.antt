@@ -1,4 +1,3 @@
-pub mod IdBytes
 pub mod EnqueueLemmas
 pub mod DeferredCommands
 pub mod Deferrals

@@ -9,7 +9,10 @@ ghost use Rattle.jdwp_mirror.specs.Commands.{carried_meaning};
 ghost use Rattle.jdwp_wire.specs.Numbers.{number_at};
 ghost use Rattle.jdwp_watch.specs.Watching.{invocation_of};
 
-use jdwp_layout::numbers::{CLASS_TYPE, OBJECT_REFERENCE};
+use jdwp_layout::numbers::{
+    CLASS_INVOKE, CLASS_TYPE, INTERFACE_INVOKE, INTERFACE_TYPE, NEW_INSTANCE, OBJECT_INVOKE,
+    OBJECT_REFERENCE,
+};
 use jdwp_mirror::{Carried, Command};
 use jdwp_value::ObjectId;
 use jdwp_wire::number::take_number;
@@ -24,17 +27,6 @@ pub enum Invocation {
     /// All.
     ByAll,
 }
-
-/// The command set InterfaceType.
-const INTERFACE_TYPE: u8 = 5;
-/// ClassType.InvokeMethod, ClassType.NewInstance, InterfaceType.InvokeMethod and ObjectReference.InvokeMethod.
-const INVOKE_STATIC: u8 = 3;
-
-const NEW_INSTANCE: u8 = 4;
-
-const INVOKE_INTERFACE: u8 = 1;
-
-const INVOKE_VIRTUAL: u8 = 6;
 
 impl Invocation {
     /// Which threads run while the method does that a command invokes, by its data; None where it invokes none.
@@ -88,10 +80,10 @@ impl Invocation {
 pub fn is_invocation(command: &Command) -> bool
     ensures { result ≡ messages.is_invocation command.now }
 {
-    is(command, CLASS_TYPE, INVOKE_STATIC)
+    is(command, CLASS_TYPE, CLASS_INVOKE)
         || is(command, CLASS_TYPE, NEW_INSTANCE)
-        || is(command, INTERFACE_TYPE, INVOKE_INTERFACE)
-        || is(command, OBJECT_REFERENCE, INVOKE_VIRTUAL)
+        || is(command, INTERFACE_TYPE, INTERFACE_INVOKE)
+        || is(command, OBJECT_REFERENCE, OBJECT_INVOKE)
 }
 
 fn is(command: &Command, set: u8, number: u8) -> bool
@@ -104,7 +96,7 @@ fn is(command: &Command, set: u8, number: u8) -> bool
 fn bytes_before_thread(command: &Command, sizes: &IdSizes) -> usize
     ensures { result ≡ before_thread sizes.now command.now }
 {
-    if is(command, OBJECT_REFERENCE, INVOKE_VIRTUAL) {
+    if is(command, OBJECT_REFERENCE, OBJECT_INVOKE) {
         sizes.object() as usize
     } else {
         sizes.reference() as usize

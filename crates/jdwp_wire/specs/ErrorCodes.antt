@@ -55,6 +55,9 @@ INVALID_EVENT_TYPE = record { 0 = 102 }
 abbrev pub ILLEGAL_ARGUMENT : ErrorCode
 ILLEGAL_ARGUMENT = record { 0 = 103 }
 
+abbrev pub OUT_OF_MEMORY : ErrorCode
+OUT_OF_MEMORY = record { 0 = 110 }
+
 abbrev pub INTERNAL : ErrorCode
 INTERNAL = record { 0 = 113 }
 

@@ -43,6 +43,8 @@ impl ErrorCode {
     pub const INVALID_EVENT_TYPE: ErrorCode = ErrorCode(102);
     /// The data of the command do not read, or are not allowed.
     pub const ILLEGAL_ARGUMENT: ErrorCode = ErrorCode(103);
+    /// There is no more memory.
+    pub const OUT_OF_MEMORY: ErrorCode = ErrorCode(110);
     /// The target cannot carry the command out.
     pub const INTERNAL: ErrorCode = ErrorCode(113);
     /// An index is outside its range.

@@ -1,6 +1,5 @@
 use Rattle.std.proofs.Common.{◌≡◌, ◌<◌, ◌≤◌, ◌∙◌, false, length, get_or, sym, ap, subst, arith}
 use Rattle.std.proofs.lemmas.List.{get_or_default, length-replicate}
-use Rattle.jdwp_layout.specs.declared.datum.Scalar.{Scalar}
 use Rattle.jdwp_layout.specs.declared.datum.Scalar.TheVariants as scalar
 use Rattle.jdwp_layout.specs.Meanings.{scalar_meaning}
 use Rattle.jdwp_layout.specs.Grammar.{kind_of}

@@ -1,4 +1,4 @@
-use Rattle.std.proofs.Common.{◌∙◌, refl}
+use Rattle.std.proofs.Common.{◌∙◌}
 use Rattle.jdwp_debugger.specs.DebuggerTurns.{read_meaning}
 use Rattle.jdwp_attach.specs.OwnCounts.{due_count}
 use Rattle.jdwp_attach.proofs.Moves.{due-asked, due-refused, on-ok}

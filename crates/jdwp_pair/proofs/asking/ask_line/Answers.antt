@@ -1,4 +1,4 @@
-use Rattle.std.proofs.Common.{◌≡◌, ◌∙◌, List, None, Option, subst, sym}
+use Rattle.std.proofs.Common.{◌≡◌, ◌∙◌, List, None, subst, sym}
 use Rattle.jdwp_link.specs.declared.events.Outcome.{Outcome}
 use Rattle.jdwp_pair.specs.Events.{refusal_in}
 use Rattle.jdwp_pair.proofs.Keeping.{keeps-asked}

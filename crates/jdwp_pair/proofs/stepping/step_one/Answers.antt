@@ -1,7 +1,6 @@
 use Rattle.std.proofs.Common.{◌∙◌, ℕ, List, subst, sym}
 use Rattle.jdwp_target.specs.Targets.{Target}
 use Rattle.jdwp_engine.specs.Rounds.{IsAhead, id_in}
-use Rattle.jdwp_machine.specs.Meanings.{numbers}
 use Rattle.jdwp_pair.proofs.Leading.{unmade-live}
 use Rattle.jdwp_pair.proofs.stepping.step_one.Goals as goal
 

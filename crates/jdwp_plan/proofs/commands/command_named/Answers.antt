@@ -1,6 +1,6 @@
-use Rattle.std.proofs.Common.{◌≡◌, ◌<◌, ◌≤◌, ℕ, below_more, arith, sym, ap, Some, None}
+use Rattle.std.proofs.Common.{◌≡◌, ◌<◌, ◌≤◌, ℕ, below_more, arith, Some}
 use Rattle.jdwp_plan.specs.Cuts.{behind, front}
-use Rattle.jdwp_plan.proofs.CommandLaws.{cut_parts, has_no, has_no_dot, named}
+use Rattle.jdwp_plan.proofs.CommandLaws.{cut_parts, has_no, named}
 use Rattle.jdwp_plan.proofs.commands.command_named.Goals as goal
 
 pub loop-set-preserved : goal.loop-set-preserved

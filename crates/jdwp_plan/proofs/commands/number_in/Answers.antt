@@ -1,5 +1,4 @@
 use Rattle.std.proofs.Common.{◌≡◌, ◌∙◌, below_more, sym}
-use Rattle.jdwp_plan.specs.Commands.{is_command}
 use Rattle.jdwp_plan.proofs.commands.number_in.Goals as goal
 
 pub loop-number-preserved : goal.loop-number-preserved

@@ -1,4 +1,4 @@
-use Rattle.std.proofs.Common.{◌≡◌, ◌∙◌, ℕ, ◌-◌, List, length, length-drop, ap, sym, take, take_all, drop, arith, string_bytes}
+use Rattle.std.proofs.Common.{◌≡◌, ◌∙◌, ℕ, ◌-◌, List, length, length-drop, ap, take, take_all, drop, arith, string_bytes}
 use Rattle.jdwp_layout.specs.Meanings.{meanings}
 use Rattle.jdwp_show.specs.DataText.{data_text}
 use Rattle.jdwp_plan.proofs.ShownLaws.{behind_start}

@@ -1,4 +1,4 @@
-use Rattle.std.proofs.Common.{◌≡◌, ◌∙◌, ℕ, ◌-◌, List, length, length-drop, ap, sym, take, take_all, drop, arith, string_bytes}
+use Rattle.std.proofs.Common.{◌≡◌, ◌∙◌, ℕ, ◌-◌, List, length, length-drop, ap, take, take_all, drop, arith, string_bytes}
 use Rattle.jdwp_layout.specs.Meanings.{scalar_meaning}
 use Rattle.jdwp_show.specs.DataText.{scalar_text}
 use Rattle.jdwp_plan.proofs.ShownLaws.{behind_one}

@@ -1,4 +1,4 @@
-use Rattle.std.proofs.Common.{◌∙◌, arith, rules}
+use Rattle.std.proofs.Common.{◌∙◌, arith}
 use Rattle.jdwp_plan_run.specs.Runs.{NoMore, OneMore}
 use Rattle.jdwp_plan_run.specs.RunsKept.{running}
 use Rattle.jdwp_plan_run.proofs.RunLaws.{so-many}

@@ -1,4 +1,4 @@
-use Rattle.std.proofs.Common.{inl, inr}
+use Rattle.std.proofs.Common.{inl}
 use Rattle.jdwp_plan_run.proofs.AskLaws.{if-err}
 use Rattle.jdwp_plan_run.proofs.ExpectLaws.{held-so, held-stops, fill-stops, on-ok}
 use Rattle.jdwp_plan_run.proofs.expecting.expect_held.Goals as goal

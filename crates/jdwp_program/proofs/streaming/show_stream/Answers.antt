@@ -1,8 +1,6 @@
-use Rattle.std.proofs.Common.{◌≡◌, ◌∙◌, ◌<◌, ◌++◌, [], ℕ, List, Option, true, false, length, take, refl, sym, subst, append_assoc, arith}
-use Rattle.std.proofs.KnownBytes.{Consumes-nil, Consumes-kept, Consumes-trans, Keeps-refl}
+use Rattle.std.proofs.Common.{◌≡◌, ◌∙◌, ◌<◌, ◌++◌, [], ℕ, List, Option, true, false, sym, subst}
+use Rattle.std.proofs.KnownBytes.{Consumes-nil}
 use Rattle.std.proofs.lemmas.List.{append-nil}
-use Rattle.std.specs.Io.KnownBytes.{Appends}
-use Rattle.jdwp_judge.specs.CaptureJudges.{HasHeardText, told_text}
 use Rattle.jdwp_program.specs.Captures.{shown_text_under}
 use Rattle.jdwp_program.specs.Printing.{AppendsSome}
 use Rattle.jdwp_program.specs.Streaming.{ShowsRead, is_stopped}

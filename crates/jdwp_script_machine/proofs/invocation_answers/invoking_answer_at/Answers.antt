@@ -1,7 +1,6 @@
 use Rattle.std.proofs.Common.{◌≡◌, ℕ, List, false, refl, rules}
-use Rattle.jdwp_layout.specs.CommandNumbers.{is_command}
+use Rattle.jdwp_layout.specs.CommandNumbers.{is_command, CLASS_INVOKE, INTERFACE_INVOKE, OBJECT_INVOKE}
 use Rattle.jdwp_layout.specs.Meanings.{DatumMeaning, meanings}
-use Rattle.jdwp_machine.specs.Invocations.{CLASS_INVOKE, INTERFACE_INVOKE, OBJECT_INVOKE}
 use Rattle.jdwp_script_machine.specs.InvocationAnswers.{invoking_answer_at}
 use Rattle.jdwp_script_machine.specs.JdiAnswers.{jdi_answer_at}
 use Rattle.jdwp_script_machine.specs.StateMeanings.{state_now}

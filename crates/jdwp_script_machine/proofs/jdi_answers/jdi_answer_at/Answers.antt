@@ -1,7 +1,6 @@
 use Rattle.std.proofs.Common.{◌≡◌, ℕ, List, false, refl, rules}
-use Rattle.jdwp_layout.specs.CommandNumbers.{is_command, OBJECT_TYPE, ALL_MODULES, CLASS_MODULE, MODULE_NAME, MODULE_CLASS_LOADER}
+use Rattle.jdwp_layout.specs.CommandNumbers.{is_command, OBJECT_TYPE, ALL_MODULES, CLASS_MODULE, MODULE_NAME, MODULE_CLASS_LOADER, CLASS_PATHS, CONTENDED_MONITOR, OWNED_MONITORS, SOURCE_DEBUG_EXTENSION}
 use Rattle.jdwp_layout.specs.Meanings.{DatumMeaning, meanings}
-use Rattle.jdwp_machine.specs.Profiles.{CLASS_PATHS, SOURCE_DEBUG_EXTENSION, OWNED_MONITORS, CONTENDED_MONITOR}
 use Rattle.jdwp_script_machine.specs.Answers.{answer_at}
 use Rattle.jdwp_script_machine.specs.JdiAnswers.{jdi_answer_at}
 use Rattle.jdwp_script_machine.specs.StateMeanings.{state_now}

@@ -1,4 +1,4 @@
-use Rattle.std.proofs.Common.{◌≡◌, ◌≤◌, ◌∙◌, ◌-◌, ◌+◌, ℕ, List, take, drop, length, refl, sym, ap, arith}
+use Rattle.std.proofs.Common.{◌≡◌, ◌≤◌, ◌∙◌, ◌-◌, ◌+◌, ℕ, List, take, drop, length, sym, ap, arith}
 use Rattle.std.proofs.lemmas.List.{take_all}
 use Rattle.std.specs.Int.{bytes_high_first}
 use Rattle.byteorder.specs.Numbers.{length-bytes_high_first}
@@ -6,7 +6,7 @@ use Rattle.jdwp_wire.specs.Frames.{header_bytes}
 use Rattle.jdwp_wire.specs.ErrorCodes.{NONE}
 use Rattle.jdwp_wire.specs.declared.packet.PacketKind.TheVariants as kind
 use Rattle.jdwp_target.proofs.EnqueueLemmas.{two_enqueued}
-use Rattle.jdwp_target.proofs.IdBytes.{last_bytes}
+use Rattle.byteorder.proofs.Bytes.{drop-bytes_high_first}
 use Rattle.jdwp_target.proofs.sending.enqueue_object.Goals as goal
 
 pub returns : goal.returns
@@ -19,7 +19,7 @@ returns c =
     let x = c.from-2.result in
     let fits : x ≤ 8 = omega (arith, within, to) in
     let all : c.to_be_bytes-bytes.result ≡ bytes_high_first 8 n = c.to_be_bytes-bytes.ensures in
-    let last : drop (8 - x) c.to_be_bytes-bytes.result ≡ bytes_high_first x n = ap (λ (l : List ℕ). drop (8 - x) l) all ∙ last_bytes 8 x n fits in
+    let last : drop (8 - x) c.to_be_bytes-bytes.result ≡ bytes_high_first x n = ap (λ (l : List ℕ). drop (8 - x) l) all ∙ drop-bytes_high_first 8 x n fits in
     let count : 8 - (8 - x) ≡ x = omega (arith, fits) in
     let cut : take (8 - (8 - x)) (drop (8 - x) c.to_be_bytes-bytes.result) ≡ bytes_high_first w n =
     ap (λ (l : List ℕ). take (8 - (8 - x)) l) last ∙ take_all (8 - (8 - x)) (bytes_high_first x n) (let len = length-bytes_high_first x n in omega (arith, fits, len)) ∙ ap (λ (k : ℕ). bytes_high_first k n) (to ∙ width) in

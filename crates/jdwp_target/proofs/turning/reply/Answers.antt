@@ -1,7 +1,7 @@
 use Rattle.std.proofs.lemmas.Grind.{common_steps}
 use Rattle.std.proofs.Common.{◌≡◌, ◌∙◌, ◌∷◌, ap, arith}
 use Rattle.jdwp_wire.specs.Streams.{stream}
-use Rattle.jdwp_end.specs.Ends.{End, with_enqueued}
+use Rattle.jdwp_end.specs.Ends.{with_enqueued}
 use Rattle.jdwp_end.specs.Ends as ends
 use Rattle.jdwp_target.specs.TurnParts.{deaths, reply_of}
 use Rattle.jdwp_target.proofs.RightTurns.{put-alone, put-death}

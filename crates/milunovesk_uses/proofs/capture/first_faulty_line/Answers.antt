@@ -1,4 +1,4 @@
-use Rattle.std.proofs.Common.{◌≡◌, ℕ}
+use Rattle.std.proofs.Common.{◌≡◌}
 use Rattle.milunovesk.specs.Show.Verdict.TheVariants as verdict
 use Rattle.milunovesk_uses.proofs.capture.first_faulty_line.Goals as goal
 

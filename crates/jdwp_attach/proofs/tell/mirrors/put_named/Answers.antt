@@ -1,5 +1,4 @@
-use Rattle.std.proofs.Common.{[], refl, sym}
-use Rattle.std.proofs.lemmas.List.{append-nil}
+use Rattle.std.proofs.Common.{[]}
 use Rattle.std.specs.String.{string_bytes}
 use Rattle.jdwp_attach.proofs.Named.{none-named}
 use Rattle.jdwp_attach.proofs.tell.mirrors.put_named.Goals as goal

@@ -1,6 +1,6 @@
 use Rattle.std.proofs.Common.{◌≡◌, Some, ap, rules}
 use Rattle.jdwp_layout.specs.Shapes.{shape}
-use Rattle.jdwp_machine.specs.Invocations.{invocation_request}
+use Rattle.jdwp_layout.specs.Invocations.{invocation_request}
 use Rattle.jdwp_debuggee.specs.Debuggees.{Debuggee}
 use Rattle.jdwp_debuggee.proofs.InvocationsRefused.{sent-refused}
 use Rattle.jdwp_debuggee.proofs.debuggee.Debuggee.ask.Goals as goal

@@ -1,4 +1,4 @@
-use Rattle.std.proofs.Common.{◌≡◌, true, false, ap, refl, rules, None}
+use Rattle.std.proofs.Common.{◌≡◌, true, ap, refl, rules, None}
 use Rattle.jdwp_action.specs.Actions as action
 use Rattle.jdwp_debuggee.specs.Askings.{Asking}
 use Rattle.jdwp_debuggee.specs.Debuggees.{CarriesOut}
@@ -7,7 +7,7 @@ use Rattle.jdwp_debuggee.proofs.Encoded.{threads-told}
 use Rattle.jdwp_debuggee.specs.Strings.{makes_string}
 use Rattle.jdwp_debuggee.proofs.MadeStrings.{string-did, string-told}
 use Rattle.jdwp_debuggee.proofs.Wanting.{both-wanted, short-wants}
-use Rattle.jdwp_debuggee.proofs.Writable.{frames-did, machine-did, machine-told, short-did, short-fails, short-sent, short-stays, thread-did}
+use Rattle.jdwp_debuggee.proofs.Writable.{frames-did, short-did, short-fails, short-sent, short-stays, thread-did}
 use Rattle.jdwp_debuggee.proofs.debuggee.Debuggee.carry_out.Goals as goal
 
 pub returns-in-Exit-clause-ok : goal.returns-in-Exit-clause-ok

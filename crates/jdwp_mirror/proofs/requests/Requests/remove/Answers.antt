@@ -1,4 +1,4 @@
-use Rattle.std.proofs.Common.{◌≡◌, List, None, Option, Some, ℤ, ap, of_z, subst, sym, to_z, w32, ◌∙◌}
+use Rattle.std.proofs.Common.{◌≡◌, List, None, Some, ℤ, ap, of_z, subst, sym, to_z, w32, ◌∙◌}
 use Rattle.std.proofs.Math.Facts.{to_z-of_z}
 use Rattle.std.specs.List.{filter}
 use Rattle.std.specs.Map.{values_of}

@@ -1,4 +1,4 @@
-use Rattle.std.proofs.Common.{◌≡◌, ◌++◌, ◌∷◌, [], ap, subst, sym}
+use Rattle.std.proofs.Common.{◌≡◌, ◌++◌, ◌∷◌, [], subst, sym}
 use Rattle.std.proofs.lemmas.List.{append-nil}
 use Rattle.jdwp_recording.specs.Assemblies.{Stands, part_of}
 use Rattle.jdwp_recording.proofs.AssemblyLaws.{joins}

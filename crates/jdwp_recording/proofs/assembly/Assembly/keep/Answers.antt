@@ -1,6 +1,5 @@
-use Rattle.std.proofs.Common.{◌≡◌, ◌≤◌, ◌++◌, ◌∷◌, [], None, Some, length, ap, subst, sym, ◌∙◌, refl, arith}
+use Rattle.std.proofs.Common.{◌≡◌, ◌≤◌, ◌++◌, ◌∷◌, [], None, Some, length, ap, sym, ◌∙◌, refl, arith}
 use Rattle.jdwp_recording.specs.declared.assembly.Piece.{Piece}
-use Rattle.jdwp_recording.specs.Assemblies.{Stands, part_of}
 use Rattle.jdwp_recording.proofs.AssemblyLaws.{keeps, keeps_other}
 use Rattle.jdwp_recording.proofs.assembly.Assembly.keep.Goals as goal
 use Rattle.jdwp_recording.proofs.assembly.Assembly.keep.Goals.{in-Some-2, in-None}

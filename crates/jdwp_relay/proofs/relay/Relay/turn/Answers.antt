@@ -1,4 +1,4 @@
-use Rattle.std.proofs.Common.{◌≡◌, Bool, true, false, Ok, Err, inl, inr, refl}
+use Rattle.std.proofs.Common.{◌≡◌, true, false, Ok, Err, inl, inr, refl}
 use Rattle.std.specs.declared.io.Error.{Error}
 use Rattle.jdwp_relay.proofs.Recording.{covered, recorded, relaying}
 use Rattle.jdwp_relay.proofs.relay.Relay.turn.Goals as goal

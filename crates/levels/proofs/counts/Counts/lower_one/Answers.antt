@@ -1,4 +1,4 @@
-use Rattle.std.proofs.Common.{◌<◌, ◌∙◌, ap, refl, sym, subst, length}
+use Rattle.std.proofs.Common.{◌<◌, ◌∙◌, ap, sym, subst, length}
 use Rattle.std.specs.Prelude.{min}
 use Rattle.levels.specs.Counts.{Counts}
 use Rattle.levels.specs.Levels.{EntryList, above, before}

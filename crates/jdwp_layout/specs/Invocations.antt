@@ -1,21 +1,9 @@
 -- Invocations of methods (JDWP specification, "ClassType", "InterfaceType" and "ObjectReference": InvokeMethod). The table of commands does
 -- not read their data, so their layouts stand here.
 use Rattle.std.specs.Prelude.{ℕ, ◌||◌, Bool, true, false, List, [], ◌∷◌, Option, Some, None, if◌then◌else◌}
-use Rattle.jdwp_layout.specs.CommandNumbers.{CommandNumber, is_command, CLASS_TYPE, OBJECT_REFERENCE}
+use Rattle.jdwp_layout.specs.CommandNumbers.{is_command, CLASS_INVOKE, INTERFACE_INVOKE, OBJECT_INVOKE}
 use Rattle.jdwp_layout.specs.Shapes.{Fields, ItemShape, OneOf, ListOf}
 use Rattle.jdwp_layout.specs.declared.item.Field.TheVariants as field
-
-abbrev pub INTERFACE_TYPE : ℕ
-INTERFACE_TYPE = 5
-
-abbrev pub CLASS_INVOKE : CommandNumber
-CLASS_INVOKE = record { set = CLASS_TYPE; number = 3 }
-
-abbrev pub INTERFACE_INVOKE : CommandNumber
-INTERFACE_INVOKE = record { set = INTERFACE_TYPE; number = 1 }
-
-abbrev pub OBJECT_INVOKE : CommandNumber
-OBJECT_INVOKE = record { set = OBJECT_REFERENCE; number = 6 }
 
 -- a method of a class or an interface: the type, the thread, the method, the arguments and the options
 abbrev pub of_type : List ItemShape
