@@ -1,5 +1,5 @@
 -- The text of a capture, cut anywhere.
-use Rattle.std.proofs.Common.{◌≡◌, ◌∙◌, ℕ, ◌+◌, ◌-◌, ◌<◌, Bool, true, false, cond, eqb, List, [], ◌∷◌, ◌++◌, length, take, drop, get_or, Option, refl, sym, ap, subst, arith, append_assoc, eqb-true, take-append-drop, length-drop, length-take}
+use Rattle.std.proofs.Common.{◌≡◌, ◌∙◌, ℕ, ◌+◌, ◌-◌, ◌<◌, Bool, true, false, cond, eqb, List, [], ◌∷◌, ◌++◌, length, take, drop, get_or, Option, Some, None, refl, sym, ap, subst, arith, append_assoc, eqb-true, take-append-drop, length-drop, length-take}
 use Rattle.std.specs.List.{slice_split}
 use Rattle.std.specs.Str.Lines.{lines, lines_of_parts, strip_carriage_return}
 use Rattle.std.proofs.lemmas.Bool.{ne_eqb}
@@ -14,18 +14,19 @@ use Rattle.jdwp_show.specs.declared.capture_line.Sender.TheVariants.{Debugger, T
 use Rattle.jdwp_show.specs.CaptureLines.{capture_lines_under, last_lines}
 use Rattle.jdwp_show.specs.Items.{items_of}
 use Rattle.jdwp_show.specs.Lines.{Line, capture_of, bad_line, sent_by}
-use Rattle.jdwp_show.specs.Sessions.{first_fault_under}
+use Rattle.jdwp_show.specs.Sessions.{first_fault_under, bad_or_broken}
 use Rattle.jdwp_show.specs.Transcripts.{Tells, said, IsWhole}
 use Rattle.memchr.specs.Find.{Nowhere, NoneBefore, Passes, is_byte}
 use Rattle.jdwp_show.proofs.TextLemmas.{grows_none, joined}
 use Rattle.jdwp_judge.specs.declared.capture_judge.CaptureJudge.{CaptureJudge}
 use Rattle.jdwp_judge.specs.declared.line_judge.LineJudge.{LineJudge}
-use Rattle.jdwp_judge.specs.CaptureJudges.{HasNoNewline, finished_after, unfinished_after, finished, unfinished, told_text, HasHeardText, HasHeardMore, HasJudged}
+use Rattle.jdwp_judge.specs.CaptureJudges.{HasNoNewline, finished_after, unfinished_after, finished, unfinished, told_text, fault_so_far, HasHeardText, HasHeardMore, HasJudged}
 use Rattle.jdwp_judge.specs.Judges.{HasFinishedUnder}
 use Rattle.jdwp_judge.specs.LineJudges.{pieces_in, bad_among, told_of, HasHeardLines, HasHeardLine}
-use Rattle.jdwp_judge.specs.Told.{lines_told, whole_by}
+use Rattle.jdwp_judge.specs.Told.{lines_told, told_under, told_fault_under, whole_by, whole_fault_under}
 use Rattle.jdwp_judge.proofs.CaptureLaws.{fault_judged, told_nothing}
-use Rattle.jdwp_judge.proofs.LineJudgeLaws.{told_of_more}
+use Rattle.jdwp_judge.proofs.LineJudgeLaws.{told_of_more, none_in_front, stays_told}
+use Rattle.jdwp_judge.proofs.SessionLaws.{fault_of_whole, whole_at_fault}
 use Rattle.jdwp_judge.proofs.ToldLaws.{is_beginning}
 
 -- ---- text that goes on
@@ -266,3 +267,48 @@ told_ends table text =
 pub told_of_nothing : (table : Table) → told_text table [] ≡ []
 unfolding finished_after
 told_of_nothing table = told_nothing table
+
+-- ---- behind a fault
+
+-- with more behind a text its lines that are finished stay
+finished_stay : (text more : List ℕ) → (rest : List (List ℕ)) × (lines (text ++ more) ≡ finished text ++ rest)
+finished_stay text more =
+    let on = finished_after (unfinished text) more in
+    let last = last_line (unfinished (text ++ more)) in
+    (on ++ last, lines_of_text (text ++ more) ∙ ap (λ (l : List (List ℕ)). l ++ last) (finished_more [] text more) ∙ append_assoc (finished text) on last)
+
+-- each line of it is whole
+all_finished : (text : List ℕ) → unfinished text ≡ [] → lines text ≡ finished text
+all_finished text none = lines_of_text text ∙ ap (λ (l : List ℕ). finished text ++ last_line l) none ∙ append-nil (finished text)
+
+-- what `show` says of a text each line of which reads, where its fault is known
+record IsShown (table : Table) (text : List ℕ) (place : ℕ × CaptureFault) : Type 0 where
+  fault : first_fault_under table text ≡ Some place
+  shows : capture_lines_under table text ≡ told_under table (capture_of text)
+
+shown_at : (table : Table) (text : List ℕ) (place : ℕ × CaptureFault) → bad_line text ≡ None → told_fault_under table (capture_of text) ≡ Some place → IsShown table text place
+shown_at table text place good known =
+    let pieces : List Line = capture_of text in
+    let fault : first_fault_under table text ≡ Some place = ap (λ (b : Option ℕ). bad_or_broken b (whole_fault_under table pieces)) good ∙ fault_of_whole table pieces place known in
+    record { fault = fault; shows = ap (λ (o : Option (ℕ × CaptureFault)). whole_by table o pieces) fault ∙ whole_at_fault table pieces place known }
+
+-- what it says of a text whose fault is known and each line of which is whole, and of it with more behind
+pub record SaysTheSame (table : Table) (text more : List ℕ) (place : ℕ × CaptureFault) : Type 0 where
+  pub on : first_fault_under table (text ++ more) ≡ Some place
+  pub here : first_fault_under table text ≡ Some place
+  pub shows : capture_lines_under table (text ++ more) ≡ capture_lines_under table text
+
+pub says_the_same : (table : Table) (text more : List ℕ) (place : ℕ × CaptureFault) → fault_so_far table text ≡ Some place → unfinished text ≡ [] → bad_line (text ++ more) ≡ None → SaysTheSame table text more place
+says_the_same table text more place known whole good =
+    let all = all_finished text whole in
+    let on = finished_stay text more in
+    let none : bad_among (finished text) ≡ None = none_in_front (finished text) on.0 (ap (λ (l : List (List ℕ)). bad_among l) (sym on.1) ∙ good) in
+    let told : told_fault_under table (pieces_in (finished text)) ≡ Some place = ap (λ (b : Option ℕ). bad_or_broken b (told_fault_under table (pieces_in (finished text)))) (sym none) ∙ known in
+    let stays = stays_told table (finished text) place on.0 told in
+    let here = shown_at table text place (ap (λ (l : List (List ℕ)). bad_among l) all ∙ none) (ap (λ (l : List (List ℕ)). told_fault_under table (pieces_in l)) all ∙ told) in
+    let there = shown_at table (text ++ more) place good (ap (λ (l : List (List ℕ)). told_fault_under table (pieces_in l)) on.1 ∙ stays.fault) in
+    record {
+      on = there.fault;
+      here = here.fault;
+      shows = there.shows ∙ ap (λ (l : List (List ℕ)). told_of table l) on.1 ∙ stays.told ∙ ap (λ (l : List (List ℕ)). told_of table l) (sym all) ∙ sym here.shows;
+    }

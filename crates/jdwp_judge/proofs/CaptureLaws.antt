@@ -5,12 +5,13 @@ use Rattle.jdwp_show.specs.declared.transcript.Transcript.{Transcript}
 use Rattle.jdwp_show.specs.declared.table.Table.{Table}
 use Rattle.jdwp_show.specs.CaptureLines.{lines_after, capture_lines_under}
 use Rattle.jdwp_show.specs.Items.{items_after}
-use Rattle.jdwp_show.specs.Lines.{Line, capture_of, bad_line}
+use Rattle.jdwp_show.specs.Lines.{capture_of, bad_line}
 use Rattle.jdwp_show.specs.Sessions.{first_after, unanswered, bad_or_broken, first_fault_under}
 use Rattle.jdwp_show.specs.Transcripts.{Tells}
 use Rattle.jdwp_show.proofs.TextLemmas.{grows_as, joined}
-use Rattle.jdwp_judge.specs.declared.judge.Judge.{Judge}
-use Rattle.jdwp_judge.specs.Judges.{HasHeardPieceUnder, HasFinishedUnder}
+use Rattle.jdwp_judge.specs.declared.line_judge.LineJudge.{LineJudge}
+use Rattle.jdwp_judge.specs.Judges.{HasFinishedUnder}
+use Rattle.jdwp_judge.specs.LineJudges.{told_of, HasHeardLine}
 use Rattle.jdwp_judge.specs.Told.{told_under, whole_by, whole_fault_under}
 
 -- of no pieces nothing is told
@@ -18,9 +19,9 @@ pub told_nothing : (table : Table) → told_under table [] ≡ []
 unfolding items_after first_after unanswered lines_after
 told_nothing table = refl
 
--- one piece more
-pub told_more : (table : Table) (judge : Judge) (pieces : List Line) (piece : Line) (old mid new : Transcript) → Tells old (told_under table pieces) mid → HasHeardPieceUnder table judge pieces piece mid new → Tells old (told_under table (pieces ++ piece ∷ [])) new
-told_more table judge pieces piece old mid new t h = grows_as (sym h.told_is) (joined t h.appended)
+-- one line more
+pub told_more : (table : Table) (judge : LineJudge) (lines : List (List ℕ)) (line : List ℕ) (old mid new : Transcript) → Tells old (told_of table lines) mid → HasHeardLine table judge lines line mid new → Tells old (told_of table (lines ++ line ∷ [])) new
+told_more table judge lines line old mid new t h = grows_as (sym h.told_is) (joined t h.appended)
 
 -- ---- the end
 

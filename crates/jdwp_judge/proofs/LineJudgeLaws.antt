@@ -5,6 +5,7 @@ use Rattle.std.proofs.lemmas.List.{append-nil, length-append}
 use Rattle.std.proofs.lemmas.List.Elements.{filter_map-append}
 use Rattle.std.proofs.lemmas.List.Sums.{take_while-cons}
 use Rattle.std.proofs.lemmas.Bool.Decides.{nat_tests}
+use Rattle.jdwp_show.specs.declared.capture_fault.CaptureFault.{CaptureFault}
 use Rattle.jdwp_show.specs.declared.table.Table.{Table}
 use Rattle.jdwp_show.specs.declared.transcript.Transcript.{Transcript}
 use Rattle.jdwp_show.specs.Lines.{Line, line_of, reads}
@@ -14,8 +15,8 @@ use Rattle.jdwp_judge.specs.declared.judge.Judge.{Judge}
 use Rattle.jdwp_judge.specs.declared.line_judge.LineJudge.{LineJudge}
 use Rattle.jdwp_judge.specs.Judges.{HasHeardUnder, HasHeardPieceUnder}
 use Rattle.jdwp_judge.specs.LineJudges.{pieces_in, bad_among, told_of, HasHeardLines, HasHeardLine}
-use Rattle.jdwp_judge.specs.Told.{told_under}
-use Rattle.jdwp_judge.proofs.SessionLaws.{beginning_of}
+use Rattle.jdwp_judge.specs.Told.{told_under, told_fault_under}
+use Rattle.jdwp_judge.proofs.SessionLaws.{beginning_of, fault_stays, told_stays}
 
 abbrev read : List (List ℕ) → List (List ℕ)
 read lines = take_while reads lines
@@ -165,3 +166,37 @@ told_of_more table lines more =
     let p = pieces_more lines more in
     let b = beginning_of table (pieces_in lines) p.0 in
     (b.0, ap (λ (l : List Line). told_under table l) p.1 ∙ b.1)
+
+-- where each of them reads, so does each of the first
+all_by : (lines : List (List ℕ)) → bad_among lines ≡ None → More lines [] → read lines ≡ lines
+all_by lines none (inl all) = all.0
+all_by lines none (inr m) = absurd (some_none (bad_among lines) _ none (bad_if_short lines m.0))
+
+all_if_none : (lines : List (List ℕ)) → bad_among lines ≡ None → read lines ≡ lines
+all_if_none lines none = all_by lines none (more lines [])
+
+front_by : (first : List ℕ) (lines more : List (List ℕ)) (b : Bool) → reads first ≡ b → read (first ∷ lines ++ more) ≡ first ∷ lines ++ more → (read (lines ++ more) ≡ lines ++ more → read lines ≡ lines) → read (first ∷ lines) ≡ first ∷ lines
+front_by first lines more true e all later =
+    let same : first ∷ read (lines ++ more) ≡ first ∷ (lines ++ more) = sym (first_reads first (lines ++ more) e) ∙ all in
+    first_reads first lines e ∙ ap (λ (l : List (List ℕ)). first ∷ l) (later cc)
+front_by first lines more false e all later = (let none : [] ≡ first ∷ (lines ++ more) = sym (first_bad first (lines ++ more) e) ∙ all in absurd cc)
+
+front_reads : (lines more : List (List ℕ)) → read (lines ++ more) ≡ lines ++ more → read lines ≡ lines
+front_reads [] more all = refl
+front_reads (first ∷ lines) more all = front_by first lines more (reads first) refl all (front_reads lines more)
+
+pub none_in_front : (lines more : List (List ℕ)) → bad_among (lines ++ more) ≡ None → bad_among lines ≡ None
+none_in_front lines more none = none_if_all lines (front_reads lines more (all_if_none (lines ++ more) none))
+
+-- a fault that is known stays, and nothing more is told behind it
+pub record StaysTold (table : Table) (lines : List (List ℕ)) (place : ℕ × CaptureFault) (more : List (List ℕ)) : Type 0 where
+  pub fault : told_fault_under table (pieces_in (lines ++ more)) ≡ Some place
+  pub told : told_of table (lines ++ more) ≡ told_of table lines
+
+pub stays_told : (table : Table) (lines : List (List ℕ)) (place : ℕ × CaptureFault) (more : List (List ℕ)) → told_fault_under table (pieces_in lines) ≡ Some place → StaysTold table lines place more
+stays_told table lines place more known =
+    let p = pieces_more lines more in
+    record {
+      fault = ap (λ (l : List Line). told_fault_under table l) p.1 ∙ fault_stays table (pieces_in lines) p.0 place known;
+      told = ap (λ (l : List Line). told_under table l) p.1 ∙ told_stays table (pieces_in lines) p.0 place known;
+    }

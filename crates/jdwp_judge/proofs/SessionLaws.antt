@@ -284,3 +284,15 @@ beginning_of_whole table pieces =
 
 pub fault_of_whole : (table : Table) (pieces : List Line) (p : ℕ × CaptureFault) → told_fault_under table pieces ≡ Some p → whole_fault_under table pieces ≡ Some p
 fault_of_whole table pieces p e = ((is_beginning table (items_of pieces)).fault p e).0
+
+-- behind a fault nothing more is told
+pub told_stays : (table : Table) (pieces more : List Line) (p : ℕ × CaptureFault) → told_fault_under table pieces ≡ Some p → told_under table (pieces ++ more) ≡ told_under table pieces
+told_stays table pieces more p e =
+    let g = goes_on table (items_of pieces) (items_after pieces more) in
+    ap (λ (l : List Item). lines_told table l) (items_more [] pieces more) ∙ g.lines ∙ ap (λ (l : List ℕ). told_under table pieces ++ l) (g.fault p e).1 ∙ append-nil (told_under table pieces)
+
+-- nor at the end
+pub whole_at_fault : (table : Table) (pieces : List Line) (p : ℕ × CaptureFault) → told_fault_under table pieces ≡ Some p → whole_by table (Some p) pieces ≡ told_under table pieces
+whole_at_fault table pieces p e =
+    let b = is_beginning table (items_of pieces) in
+    append-nil (lines_under (terms_of table (items_of pieces)) (items_of pieces)) ∙ b.lines ∙ ap (λ (l : List ℕ). told_under table pieces ++ l) (b.fault p e).1 ∙ append-nil (told_under table pieces)

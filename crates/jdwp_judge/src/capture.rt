@@ -1,18 +1,17 @@
 //! Whole captures.
-ghost use Rattle.std.specs.Prelude.{◌≡◌, ◌↔◌, ◌∷◌, [], ℕ, Some, None, IfOk, OnOk};
+ghost use Rattle.std.specs.Prelude.{◌≡◌, ◌↔◌, [], ℕ, Some, None, IfOk, OnOk};
+ghost use Rattle.std.specs.Str.Lines.{lines as lines_of};
 ghost use Rattle.std.specs.String.{string_bytes};
-ghost use Rattle.jdwp_judge.specs.Judges.{HasHeardUnder};
-ghost use Rattle.jdwp_judge.specs.Told.{told_under};
+ghost use Rattle.jdwp_judge.specs.LineJudges.{HasHeardLines, told_of};
 ghost use Rattle.jdwp_show.specs.CaptureLines.{capture_lines, capture_lines_under};
-ghost use Rattle.jdwp_show.specs.Lines.{capture_of, bad_line};
 ghost use Rattle.jdwp_show.specs.Sessions.{BeginsSession, BeginsSessionUnder, IsFirstFault, IsFirstFaultUnder, verdict, verdict_under, first_fault, first_fault_under};
 ghost use Rattle.jdwp_show.specs.Transcripts.{Tells};
 ghost use Rattle.jdwp_show.specs.declared.capture_fault.CaptureFault.{CaptureFault};
 ghost use Rattle.jdwp_show.specs.declared.table.Table as tables;
 ghost use Rattle.jdwp_show.specs.declared.verdict.Verdict as verdicts;
 
-use crate::judge::Judge;
-use jdwp_show::{CaptureFault, Shown, Table, Transcript, Verdict, read_line};
+use crate::line_judge::LineJudge;
+use jdwp_show::{CaptureFault, Shown, Table, Transcript, Verdict};
 use jdwp_wire::NoMemory;
 use std::alloc::Global;
 
@@ -127,33 +126,20 @@ fn judge(
     ensures fault { IfOk result (λ fault. fault ≡ first_fault_under table text.now) }
     ensures lines { OnOk result (Tells lines.old (capture_lines_under table text.now) lines.new) }
 {
-    let mut judge = Judge::under(alloc, table);
-    let bad_line = hear_lines(alloc, text, &mut judge, lines)?;
-    Ok(judge.finish(bad_line, lines))
+    let mut judge = LineJudge::under(alloc, table);
+    hear_lines(text, &mut judge, lines)?;
+    Ok(judge.finish(lines))
 }
 
-/// Feeds the judge with the lines of a capture, up to the first that does not read, whose number, from 1, is answered.
-fn hear_lines(
-    alloc: Global,
-    text: &str,
-    judge: &mut Judge,
-    lines: &mut Transcript,
-) -> Result<Option<usize>, NoMemory>
-    ensures bad_line { IfOk result (λ bad. bad ≡ bad_line text.now) }
-    ensures heard { (table : tables.Table) → HasHeardUnder table judge.old [] → OnOk result
-        (HasHeardUnder table judge.new (capture_of text.now)) }
-    ensures told { (table : tables.Table) → HasHeardUnder table judge.old [] → OnOk result (Tells
-        lines.old (told_under table (capture_of text.now)) lines.new) }
+/// The judge hears the lines of a capture.
+fn hear_lines(text: &str, judge: &mut LineJudge, lines: &mut Transcript) -> Result<(), NoMemory>
+    ensures heard { (table : tables.Table) → HasHeardLines table judge.old [] → OnOk result
+        (HasHeardLines table judge.new (lines_of text.now)) }
+    ensures told { (table : tables.Table) → HasHeardLines table judge.old [] → OnOk result (Tells
+        lines.old (told_of table (lines_of text.now)) lines.new) }
 {
-    let mut bytes = Vec::new(alloc);
-    let mut number = 1;
     for line in text.lines() {
-        bytes.clear();
-        let Some(sender) = read_line(line.as_bytes(), &mut bytes)? else {
-            return Ok(Some(number));
-        };
-        judge.hear(sender, &bytes, lines)?;
-        number += 1;
+        judge.hear(line.as_bytes(), lines)?;
     }
-    Ok(None)
+    Ok(())
 }

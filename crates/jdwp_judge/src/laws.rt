@@ -1,6 +1,6 @@
 //! Laws: each function says what holds, in its contract, and does nothing; to call it is to cite it.
-ghost use Rattle.std.specs.Prelude.{◌≡◌, ℕ, List, ◌++◌, Some, None};
-ghost use Rattle.jdwp_judge.specs.CaptureJudges.{told_text};
+ghost use Rattle.std.specs.Prelude.{◌≡◌, ℕ, List, [], ◌++◌, Some, None};
+ghost use Rattle.jdwp_judge.specs.CaptureJudges.{told_text, fault_so_far, unfinished};
 ghost use Rattle.jdwp_judge.specs.Told.{told_under, told_fault_under, whole_under, whole_fault_under};
 ghost use Rattle.jdwp_show.specs.CaptureLines.{capture_lines_under};
 ghost use Rattle.jdwp_show.specs.Lines.{Line, capture_of, bad_line};
@@ -37,4 +37,20 @@ pub fn tells_beginnings_of_text()
         × (told_text table (text ++ more) ≡ told_text table text ++ rest) }
     ensures ends { (table : Table) (text : List ℕ) → (rest : List ℕ)
         × (capture_lines_under table text ≡ told_text table text ++ rest) }
+{}
+
+/// Where the first fault of a capture's text is known, each line of the text is whole and each line of it with more behind it reads, then what
+/// `show` says of the text with more behind it is what it says of the text, lines and fault.
+pub fn a_fault_ends_what_is_told()
+    ensures fault { (table : Table) (text more : List ℕ) (place : ℕ × CaptureFault)
+        → fault_so_far table text ≡ Some place
+        → unfinished text ≡ []
+        → bad_line (text ++ more) ≡ None
+        → (first_fault_under table (text ++ more) ≡ Some place)
+        × (first_fault_under table text ≡ Some place) }
+    ensures lines { (table : Table) (text more : List ℕ) (place : ℕ × CaptureFault)
+        → fault_so_far table text ≡ Some place
+        → unfinished text ≡ []
+        → bad_line (text ++ more) ≡ None
+        → capture_lines_under table (text ++ more) ≡ capture_lines_under table text }
 {}

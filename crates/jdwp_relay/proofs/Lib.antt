@@ -1,4 +1,5 @@
 pub mod Pieces
 pub mod Passing
 pub mod Recording
+pub mod Writing
 pub mod ReadingBack

@@ -1,5 +1,5 @@
 //! The lines of a capture, as they are written.
-ghost use Rattle.std.specs.Prelude.{◌≡◌, length, OnErr, OnOk};
+ghost use Rattle.std.specs.Prelude.{◌≡◌, ◌++◌, [], length, OnErr, OnOk};
 ghost use Rattle.std.specs.Io.KnownBytes.{Appends, Keeps};
 ghost use Rattle.jdwp_relay.specs.Captures.{AppendsFirst, AppendsPart};
 ghost use Rattle.jdwp_relay.specs.LineText.{line_text, mark_of};
@@ -14,22 +14,38 @@ use std::io::{ErrorKind, Write};
 pub struct Capture<W> {
     alloc: Global,
     writer: W,
-    /// The line that was written last.
-    line: Vec<u8>,
+    /// The lines that were written since they were last forgotten.
+    fresh: Vec<u8>,
 }
 
 impl<W> Capture<W> {
-    ghost use Rattle.jdwp_relay.specs.Captures.{writer_of};
+    ghost use Rattle.jdwp_relay.specs.Captures.{fresh_of, writer_of};
 
     /// A capture that goes to this writer, to which nothing was written yet.
     pub fn new(alloc: Global, writer: W) -> Capture<W>
-        ensures { writer_of result ≡ writer }
+        ensures writer { writer_of result ≡ writer }
+        ensures fresh { fresh_of result ≡ [] }
     {
         Capture {
             alloc,
             writer,
-            line: Vec::new(alloc),
+            fresh: Vec::new(alloc),
         }
+    }
+
+    /// The lines that were written since they were last forgotten.
+    pub fn fresh(&self) -> &[u8]
+        ensures { result.now ≡ fresh_of self.now }
+    {
+        &self.fresh
+    }
+
+    /// Forgets them.
+    pub fn forget(&mut self)
+        ensures writer { writer_of self.new ≡ writer_of self.old }
+        ensures fresh { fresh_of self.new ≡ [] }
+    {
+        self.fresh.clear();
     }
 
     /// The writer.
@@ -42,7 +58,7 @@ impl<W> Capture<W> {
 }
 
 impl<W: Write> Capture<W> {
-    ghost use Rattle.jdwp_relay.specs.Captures.{writer_of};
+    ghost use Rattle.jdwp_relay.specs.Captures.{fresh_of, writer_of};
 
     /// Writes a line of these bytes, of which there is one at least, as those that this end sent, and sees that it leaves.
     ///
@@ -53,11 +69,13 @@ impl<W: Write> Capture<W> {
             (W.contents (writer_of self.new)) (line_text sender bytes.now)) }
         ensures err { OnErr result (AppendsPart (W.contents (writer_of self.old))
             (W.contents (writer_of self.new)) (line_text sender bytes.now)) }
+        ensures fresh { OnOk result (fresh_of self.new ≡ fresh_of self.old ++ line_text sender bytes.now) }
     {
-        if put_line(self.alloc, sender, bytes, &mut self.line).is_err() {
+        let start = self.fresh.len();
+        if put_line(self.alloc, sender, bytes, &mut self.fresh).is_err() {
             return Err(io::Error::from(ErrorKind::OutOfMemory));
         }
-        let (_, written) = write_text(&mut self.writer, &self.line);
+        let (_, written) = write_text(&mut self.writer, &self.fresh[start..]);
         match written {
             Ok(()) => flush_uninterrupted(&mut self.writer),
             Err(error) => Err(error),
@@ -65,20 +83,19 @@ impl<W: Write> Capture<W> {
     }
 }
 
-/// Puts a line of these bytes in the place of what was there.
+/// Puts a line of these bytes behind what is there.
 fn put_line(
     alloc: Global,
     sender: Sender,
     bytes: &[u8],
-    line: &mut Vec<u8>,
+    fresh: &mut Vec<u8>,
 ) -> Result<(), AllocError>
-    ensures { OnOk result (line.new.items ≡ line_text sender bytes.now) }
+    ensures { OnOk result (fresh.new.items ≡ fresh.old.items ++ line_text sender bytes.now) }
 {
-    line.clear();
-    line.extend_from_slice(&[mark(sender), b' '])?;
+    fresh.extend_from_slice(&[mark(sender), b' '])?;
     let digits = hex::encode(alloc, bytes)?;
-    line.extend_from_slice(digits.as_bytes())?;
-    line.push(b'\n')?;
+    fresh.extend_from_slice(digits.as_bytes())?;
+    fresh.push(b'\n')?;
     Ok(())
 }
 

@@ -1,5 +1,5 @@
 //! One direction: bytes on their way from a source to a sink.
-ghost use Rattle.std.specs.Prelude.{◌≡◌, ◌<◌, ◌≤◌, true, IfOk, drop, length};
+ghost use Rattle.std.specs.Prelude.{◌≡◌, ◌<◌, ◌≤◌, true, IfOk, OnOk, drop, length};
 ghost use Rattle.jdwp_relay.specs.Ducts.{is_move};
 ghost use Rattle.jdwp_relay.specs.Flows.{count_of};
 
@@ -59,7 +59,7 @@ impl Duct {
     ghost use Rattle.std.specs.Prelude.{is_some};
     ghost use Rattle.jdwp_relay.specs.Passages.{IsPassed, begun, ending_due, hands_on, reads_on, room, turned, with_stage, with_waiting};
     ghost use Rattle.jdwp_relay.specs.Ducts.{Drains, Ends, Fills, HandsOn, ReadsMore, TakesIn};
-    ghost use Rattle.jdwp_relay.specs.Captures.{writer_of};
+    ghost use Rattle.jdwp_relay.specs.Captures.{WritesFresh, fresh_of, writer_of};
     ghost use Rattle.jdwp_relay.specs.Flows.{Inflow, Outflow};
 
     /// The direction of what this end sends, with nothing under way.
@@ -107,6 +107,8 @@ impl Duct {
             self.new (S.came source.new) (W.contents (writer_of capture.new)) }
         ensures passed { (sink : Outflow) → IsPassed (S.came source.old) sink self.old
             → IsPassed (S.came source.new) sink self.new }
+        ensures fresh { OnOk result (WritesFresh (W.contents (writer_of capture.old)) (fresh_of capture.old)
+            (W.contents (writer_of capture.new)) (fresh_of capture.new)) }
     {
         if !self.reads_on() {
             return Ok(Came::Nothing);

@@ -1,6 +1,7 @@
 //! Both directions between a debugger and a target, and one capture.
-ghost use Rattle.std.specs.Prelude.{◌≡◌, ℕ, List, Option, true, IfOk, OnOk};
-ghost use Rattle.jdwp_relay.specs.Captures.{writer_of};
+ghost use Rattle.std.specs.Prelude.{◌≡◌, ℕ, List, Option, true, not, IfOk, OnOk};
+ghost use Rattle.std.specs.Io.KnownBytes.{Appends};
+ghost use Rattle.jdwp_relay.specs.Captures.{WritesFresh, fresh_of, writer_of};
 ghost use Rattle.jdwp_relay.specs.Relays.{HasTurned, IsCovered, IsRecorded, IsRelaying, Passes, begun_relay, crossing, heeding, is_done, is_over, is_reset, is_something};
 
 use crate::capture::Capture;
@@ -71,7 +72,8 @@ impl Relay {
         is_done(up) && is_done(down) || is_reset(up) || is_reset(down)
     }
 
-    /// Moves bytes once in each direction: at most one read and one write. Whether something changed.
+    /// Moves bytes once in each direction: at most one read and one write. Whether something changed. What was fresh in the capture before is
+    /// forgotten.
     ///
     /// # Errors
     /// Where the capture can't be written. Then the direction whose line it was is broken, and no byte was handed on whose line is not written.
@@ -104,7 +106,11 @@ impl Relay {
             (crossing S.came K.went debugger.old target.old (W.contents (writer_of capture.old)))
             → IsCovered start
             (crossing S.came K.went debugger.new target.new (W.contents (writer_of capture.new))) }
+        // What `fresh` lends is what this turn wrote.
+        ensures fresh { OnOk result (Appends (W.contents (writer_of capture.old))
+            (W.contents (writer_of capture.new)) (fresh_of capture.new)) }
     {
+        capture.forget();
         let up = pass(
             &mut self.from_debugger,
             self.from_target.stage(),
@@ -129,10 +135,58 @@ impl Relay {
         }
     }
 
-    /// Moves bytes until there is nothing more to do, and waits where none can be moved.
+    /// One turn, and behind it, where none could be moved and there is more to do, a wait until bytes can be. Whether there is more to do.
     ///
     /// # Errors
     /// `Capture` where the capture can't be written; `Waiting` where a wait fails.
+    pub fn step<S: Source, K: Sink, W: Write, R: Readiness>(
+        &mut self,
+        debugger: &mut Halves<S, K>,
+        target: &mut Halves<S, K>,
+        capture: &mut Capture<W>,
+        readiness: &mut R,
+    ) -> Result<bool, RelayFault>
+        ensures over { IfOk result (λ goes_on. goes_on ≡ not (is_over self.new)) }
+        // What came is what went and what waits, and endings are handed on as they have to be.
+        ensures relaying { IsRelaying self.old
+            (crossing S.came K.went debugger.old target.old (W.contents (writer_of capture.old)))
+            → IsRelaying self.new
+            (crossing S.came K.went debugger.new target.new (W.contents (writer_of capture.new))) }
+        // The capture is lines of just what came.
+        ensures recorded { OnOk result ((start : Option (List ℕ)) → IsRelaying self.old
+            (crossing S.came K.went debugger.old target.old (W.contents (writer_of capture.old)))
+            → IsRecorded start
+            (crossing S.came K.went debugger.old target.old (W.contents (writer_of capture.old)))
+            → IsRecorded start
+            (crossing S.came K.went debugger.new target.new (W.contents (writer_of capture.new)))) }
+        // What went is a beginning of what its lines hold, where a line was not written whole, too.
+        ensures covered { (start : Option (List ℕ)) → IsRelaying self.old
+            (crossing S.came K.went debugger.old target.old (W.contents (writer_of capture.old)))
+            → IsRecorded start
+            (crossing S.came K.went debugger.old target.old (W.contents (writer_of capture.old)))
+            → IsCovered start
+            (crossing S.came K.went debugger.new target.new (W.contents (writer_of capture.new))) }
+        // What `fresh` lends is what this turn wrote.
+        ensures fresh { OnOk result (Appends (W.contents (writer_of capture.old))
+            (W.contents (writer_of capture.new)) (fresh_of capture.new)) }
+    {
+        let moved = match self.turn(debugger, target, capture) {
+            Ok(moved) => moved,
+            Err(error) => return Err(RelayFault::Capture(error)),
+        };
+        if self.is_over() {
+            return Ok(false);
+        }
+        if !moved && let Err(error) = readiness.wait() {
+            return Err(RelayFault::Waiting(error));
+        }
+        Ok(true)
+    }
+
+    /// Moves bytes until there is nothing more to do, and waits where none can be moved.
+    ///
+    /// # Errors
+    /// As those of `step`.
     pub fn run<S: Source, K: Sink, W: Write, R: Readiness>(
         &mut self,
         debugger: &mut Halves<S, K>,
@@ -161,16 +215,12 @@ impl Relay {
             → IsCovered start
             (crossing S.came K.went debugger.new target.new (W.contents (writer_of capture.new))) }
     {
+        if self.is_over() {
+            return Ok(());
+        }
         for _ in 0..MOST_TURNS {
-            if self.is_over() {
+            if !self.step(debugger, target, capture, readiness)? {
                 return Ok(());
-            }
-            let moved = match self.turn(debugger, target, capture) {
-                Ok(moved) => moved,
-                Err(error) => return Err(RelayFault::Capture(error)),
-            };
-            if !moved && let Err(error) = readiness.wait() {
-                return Err(RelayFault::Waiting(error));
             }
         }
         Err(RelayFault::Waiting(io::Error::from(io::ErrorKind::TimedOut)))
@@ -218,9 +268,11 @@ fn pass<S: Source, K: Sink, W: Write>(
     sink: &mut K,
     capture: &mut Capture<W>,
 ) -> io::Result<bool>
-    ensures { Passes duct.old other (S.came source.old) (K.went sink.old)
+    ensures passes { Passes duct.old other (S.came source.old) (K.went sink.old)
         (W.contents (writer_of capture.old)) result duct.new (S.came source.new)
         (K.went sink.new) (W.contents (writer_of capture.new)) }
+    ensures fresh { OnOk result (WritesFresh (W.contents (writer_of capture.old)) (fresh_of capture.old)
+        (W.contents (writer_of capture.new)) (fresh_of capture.new)) }
 {
     let came = match duct.take_in(source, capture) {
         Ok(came) => came,
