@@ -21,7 +21,7 @@ PAGE = f"{ROOT}/docs/PROVED.md"
 HEAD = """\
 # What is proved
 
-This page is made by `bench/proved.py`, which fails where a contract that it names is gone. Every function is safe and returns, whatever bytes come ([README](../README.md#what-is-proved)). Beyond that you may rely on this; behind a function's colon stand the clauses (`ensures NAME`) that say it, and [DEFINITIONS](DEFINITIONS.md) leads through their words, *mirror*, *hold* and *defer* first.
+`bench/proved.py` makes this page, and fails where a contract in it is gone. Every function is safe and returns, whatever bytes come ([README](../README.md#what-is-proved)). You may also rely on this; behind a colon stand the clauses (`ensures NAME`), and [DEFINITIONS](DEFINITIONS.md) leads through their words, *mirror*, *hold* and *defer* first.
 """
 
 ROWS = """\
@@ -103,7 +103,7 @@ jdwp_layout | layout_of | A command's row is that of the definitions' table of 9
 jdwp_layout | read found only fault hides; write ok err; validate accepted fault memory; encodes_one_list | Data of any layout are read, written and judged, the first fault told; want of memory hides none, and judging takes none
 jdwp_judge | check yes no; show begins fault lines | `check` and `show` name exactly the first fault of a capture and its line; the lines are those of the definitions
 jdwp_show | finds_each_message; stands_in_its_line; tells_widths_first; waits_where_it_stands | To these they are tied: each message once, in its line; which widths hold; which command waits
-jdwp_judge | Judge::feed heard told; Judge::end lines fault; Judge::held; CaptureJudge::feed told; CaptureJudge::end lines fault | What is told of a session that goes on, or of a capture that is read, is a beginning of what `show` says of it, and all that is sure; what is kept is what waits
+jdwp_judge | Judge::feed heard told; Judge::end lines fault; Judge::held; CaptureJudge::feed told; CaptureJudge::end lines fault; a_fault_ends_what_is_told | What is told of a session that goes on, or of a capture that is read, is a beginning of what `show` says of it, and all that is sure; what is kept is what waits
 jdwp_draw | Picture::read rows whole fault; svg | A drawing has an arrow for each message that `show` prints, in order, and beside it what a debugger's mirror has behind it
 jdwp_answer | Reply::read found only fault; Reply::of_data; LineTable::line_at | A reply is a struct exactly where it is in its layout; the line of a code index
 jdwp_event_fields | EventSet::of_composite value; read_composites_have_events | A composite that was read is events by kind that say the same, or its policy is none
@@ -127,7 +127,7 @@ jdwp_attach | attach_by_lines in_order ended last_flush line | The same of a deb
 jdwp_attach | mirror_text; known_text; answered_line; seen_line | Lines are those of `show`; a mirror is told by its threads, then its requests; in `Order::Apart` each thread that was named, by what is sure
 jdwp_engine | serve_session served; serve_script fault untouched | A new target's session, from what was read to what was written; a script's fault with nothing touched
 jdwp_port | serve_sessions serves closed; serve_stream served; attach_stream ran | Sessions at a port are those of `serve` and `attach`, one after the other with one target
-jdwp_program | check_capture tells leaves; show_capture tells leaves; show_stream; check_stream; attach_session ran; Outcome::of_session; Fault::status status; limits | What the writer took is the verdict, or the lines and the fault, or a beginning, also while it is read. How a session's end is told, with which status
+jdwp_program | check_capture tells leaves; show_capture tells leaves; show_stream; check_stream; LiveShow::end; attach_session ran; Outcome::of_session; Fault::status status; limits | What the writer took is the verdict, or the lines and the fault, or a beginning, also while it is read or written. How a session's end is told, with which status
 jdwp_words | read runs keeps | Words run a plan only for `attach` or `pair`, and write to no file that they read, by name
 jdwp_partner | Partner::session | A `Partner` (`pair` by a plan in words) is fed what is written while its session is open, and what is read is what it put, in order
 jdwp_files | run bound leaves | The status says what is on standard output, but for `attach` and `pair`

@@ -7,8 +7,8 @@ there). A debugger (`port_client.c`) asks a plain target (`plain_target.rs`) thr
 - one at a time: it waits for each answer before it asks again. To reach: 0.9 of the plain relay's rate;
 - 256 at once: so many commands wait for their answers. To reach: 0.5 of its rate;
 - memory: the recorder's peak in one session behind 100,000 commands and behind a million. To reach: no growth.
-Then a real jdb debugs a real Java machine through `record --once --show` (a JDK has to be there): the capture is judged `yes`, and what was
-shown is what `show` prints of it.
+Then a real jdb debugs a real Java machine through `record --once --show` (a JDK has to be there): the capture is judged `yes`, what was
+shown is what `show` prints of it, and most of that was shown before the session ended.
 
     bench/record.py [--no-java] [--keep FOLDER] [PROGRAM]
 
@@ -85,8 +85,16 @@ def printed(program, word, capture):
     return subprocess.run([program, word, capture], capture_output=True, text=True, check=False).stdout
 
 
+def so_far(stream):
+    """What can be read of a stream at once."""
+    os.set_blocking(stream.fileno(), False)
+    found = stream.read() or b""
+    os.set_blocking(stream.fileno(), True)
+    return found
+
+
 def jdb_session(program, capture):
-    """A session of jdb through the recorder: what it printed behind its first line."""
+    """A session of jdb through the recorder: what it printed behind its first line, before the session ended and in all, and its status."""
     import jvm
     from record_jdb import Terminal
 
@@ -94,18 +102,21 @@ def jdb_session(program, capture):
         jvm.compiled(classes)
         with jvm.Machine(classes, 1, suspend=True) as machine:
             words = [program, "record", "--listen", "0", "--port", str(machine.port), "--to", capture, "--once", "--show"]
-            ran = subprocess.Popen(words, stdout=subprocess.PIPE, text=True)
+            ran = subprocess.Popen(words, stdout=subprocess.PIPE, bufsize=0)
             try:
-                line = ran.stdout.readline()
+                line = ran.stdout.readline().decode()
                 if not line.startswith(LISTENING):
                     sys.exit(f"it does not listen: {line!r}")
                 terminal = Terminal(int(line[len(LISTENING) :]))
                 time.sleep(1)  # it reads no command before it is attached
+                meanwhile = b""
                 for command in JDB:
                     terminal.say(command)
                     time.sleep(0.3)
+                    meanwhile += so_far(ran.stdout)
                 terminal.end()
-                return ran.communicate(timeout=PATIENCE)[0], ran.returncode
+                rest = ran.communicate(timeout=PATIENCE)[0]
+                return meanwhile.decode(), (meanwhile + rest).decode(), ran.returncode
             finally:
                 ran.kill()
                 ran.wait()
@@ -114,11 +125,12 @@ def jdb_session(program, capture):
 def java(program, folder):
     """Whether a session of jdb is recorded, judged and shown as it has to be."""
     capture = os.path.join(folder, "jdb.capture")
-    shown, status = jdb_session(program, capture)
+    meanwhile, shown, status = jdb_session(program, capture)
     verdict = printed(program, "check", capture)
     is_same = shown == printed(program, "show", capture)
-    print(f"jdb: {len(shown.splitlines()):,} lines shown, status {status}, judged {verdict.strip()}; they are those of show: {is_same}", flush=True)
-    return status == 0 and verdict == "yes\n" and is_same and " reply " in shown
+    counts = f"{len(shown.splitlines()):,} lines shown, {len(meanwhile.splitlines()):,} of them before the session ended"
+    print(f"jdb: {counts}, status {status}, judged {verdict.strip()}; they are those of show: {is_same}", flush=True)
+    return status == 0 and verdict == "yes\n" and is_same and " reply " in shown and 2 * len(meanwhile) > len(shown)
 
 
 def built(folder):

@@ -1,40 +1,41 @@
 -- What a recorder leaves, session by session.
-use Rattle.std.proofs.Common.{◌≡◌, ℕ, ◌+◌, List, [], ◌∷◌, ◌++◌, length, take, length-append, append-nil, Bool, true, false, Option, Some, None, Result, Ok, Err, inl, inr, refl, sym, subst, arith}
+use Rattle.std.proofs.Common.{◌≡◌, ℕ, ◌+◌, ◌<◌, List, [], ◌∷◌, ◌++◌, length, take, length-append, append-nil, Bool, true, false, Option, Some, None, Result, Ok, Err, inl, inr, refl, sym, subst, arith}
 use Rattle.std.specs.Bool.{then_some}
 use Rattle.std.specs.Result.{IsErr, IsErrAnd}
 use Rattle.std.specs.Io.KnownBytes.{Appends, Keeps}
 use Rattle.std.proofs.KnownBytes.{Appends-nil, Appends-kept, Appends-trans}
 use Rattle.std.proofs.lemmas.Grind.{flat_map-append}
 use Rattle.std.proofs.Math.Seq.{take-append-add}
-use Rattle.jdwp_show.specs.Sessions.{first_fault}
+use Rattle.jdwp_relay.specs.declared.relay.RelayFault.{RelayFault}
+use Rattle.jdwp_relay.specs.declared.relay.RelayFault.TheVariants as relay
+use Rattle.jdwp_record.specs.declared.faults.RecordFault.{RecordFault}
+use Rattle.jdwp_record.specs.Faults.{IsBrokenOff}
+use Rattle.jdwp_show.specs.declared.table.Table.TheVariants.{Standard}
 use Rattle.jdwp_program.specs.declared.captures.Told.{Told}
 use Rattle.jdwp_program.specs.declared.captures.Told.TheVariants.{Faultless, Faulty, Unread}
 use Rattle.jdwp_program.specs.declared.captures.TellFault.{TellFault}
 use Rattle.jdwp_program.specs.declared.captures.TellFault.TheVariants.{Output, NoMemory}
 use Rattle.jdwp_program.specs.declared.fault.Fault.{Fault}
+use Rattle.jdwp_program.specs.declared.live.LiveShow.{LiveShow}
+use Rattle.jdwp_program.specs.declared.streaming.StreamFault.{StreamFault}
 use Rattle.jdwp_program.specs.declared.outcome.Outcome.{Outcome}
 use Rattle.jdwp_program.specs.declared.outcome.Outcome.TheVariants.{Capture}
-use Rattle.jdwp_program.specs.Captures.{Tells, shown_text}
-use Rattle.jdwp_program.specs.Files.{fault_of_telling}
+use Rattle.jdwp_program.specs.Captures.{shown_text}
+use Rattle.jdwp_program.specs.Files.{fault_of_recorder, fault_of_telling}
+use Rattle.jdwp_program.specs.Live.{IsShowing, ShowsWritten}
 use Rattle.jdwp_program.specs.Listening.{TellsListening, listening_line}
-use Rattle.jdwp_program.specs.Outputs.{Leaves, LeavesCaptureTold, LeavesOutcome, LeavesSession, LeavesSessions, LeavesShown, LeavesText, shown_texts}
-use Rattle.jdwp_program.specs.Printing.{AppendsPart}
+use Rattle.jdwp_program.specs.Outputs.{Leaves, LeavesCaptureTold, LeavesLive, LeavesOutcome, LeavesSession, LeavesSessions, LeavesShown, LeavesText, shown_texts}
+use Rattle.jdwp_program.specs.Printing.{AppendsPart, AppendsSome}
 use Rattle.jdwp_program.specs.Statuses.{status_of_fault, status_of_outcome}
+use Rattle.jdwp_program.proofs.LiveLaws.{part_some, read_some, showing_some}
 
 -- ---- one behind the other
 
 -- all of a text, and then another or a beginning of it
 text_behind : (status : ℕ) (first second : List ℕ) (old mid new : Option (List ℕ)) → Appends old mid first → LeavesText status second mid new → LeavesText status (first ++ second) old new
 text_behind status first second old mid new all (inl more) = inl (Appends-trans old mid new first second all more)
-text_behind status first second old mid new all (inr (is, (count, less, more))) =
-    inr (
-      is,
-      (
-        length first + count,
-        omega (arith, length-append first second),
-        subst (λ text. Appends old new text) (sym (take-append-add first second count)) (Appends-trans old mid new first (take count second) all more),
-      ),
-    )
+text_behind status first second old mid new all (inr (above, (count, more))) =
+    inr (above, (length first + count, subst (λ text. Appends old new text) (sym (take-append-add first second count)) (Appends-trans old mid new first (take count second) all more)))
 
 -- behind captures that were shown others are
 pub shown_behind : (status : ℕ) (shown : List (List ℕ)) (old mid new : Option (List ℕ)) → Appends old mid (shown_texts shown) → LeavesShown status mid new → LeavesShown status old new
@@ -74,35 +75,42 @@ outcome_of_last false outcome captures old new all = (captures, all)
 one_shown : (capture : List ℕ) (old new : Option (List ℕ)) → Appends old new (shown_text capture) → Appends old new (shown_texts (capture ∷ []))
 one_shown capture old new all = subst (λ text. Appends old new text) (sym (one_text capture)) all
 
-one_begun : (capture : List ℕ) (old new : Option (List ℕ)) → AppendsPart old new (shown_text capture) → AppendsPart old new (shown_texts (capture ∷ []))
-one_begun capture old new part = subst (λ text. AppendsPart old new text) (sym (one_text capture)) part
+one_begun : (capture : List ℕ) (old new : Option (List ℕ)) → AppendsSome old new (shown_text capture) → AppendsSome old new (shown_texts (capture ∷ []))
+one_begun capture old new some = subst (λ text. AppendsSome old new text) (sym (one_text capture)) some
 
--- its capture was shown so
-pub told_last : (once : Bool) (told : Told) (capture : List ℕ) (old new : Option (List ℕ)) → Tells (first_fault capture) (shown_text capture) old new (Ok told)
-    → (told ≡ Unread → ⊥) → LeavesSession (Ok (then_some once (Capture told))) old new
-told_last once Faultless capture old new tells read = outcome_of_last once (Capture Faultless) (capture ∷ []) old new (one_shown capture old new tells.1)
-told_last once Faulty capture old new tells read = outcome_of_last once (Capture Faulty) (capture ∷ []) old new (one_shown capture old new tells.1)
-told_last once Unread capture old new tells read = absurd (read refl)
+-- a beginning of it was shown
+pub begun_shown : (status : ℕ) (capture : List ℕ) (old new : Option (List ℕ)) → 1 < status → AppendsSome old new (shown_text capture) → LeavesShown status old new
+begun_shown status capture old new above some = (capture ∷ [], inr (above, one_begun capture old new some))
 
--- who reads the output went away
-pub told_unread : (capture : List ℕ) (old new : Option (List ℕ)) → AppendsPart old new (shown_text capture) → LeavesShown 2 old new
-told_unread capture old new part = (capture ∷ [], inr (refl, one_begun capture old new part))
+-- it was shown while it went on
+pub live_last : (once : Bool) (told : Told) (old new : Option (List ℕ)) → LeavesLive (Ok told) old new → (told ≡ Unread → ⊥) → LeavesSession (Ok (then_some once (Capture told))) old new
+live_last once Faultless old new (capture, all) read = outcome_of_last once (Capture Faultless) (capture ∷ []) old new (one_shown capture old new all)
+live_last once Faulty old new (capture, all) read = outcome_of_last once (Capture Faulty) (capture ∷ []) old new (one_shown capture old new all)
+live_last once Unread old new shown read = absurd (read refl)
 
--- it was not told
-pub untold : (capture : List ℕ) (fault : TellFault) (old new : Option (List ℕ)) → Tells (first_fault capture) (shown_text capture) old new (Err fault) → LeavesShown (status_of_fault (fault_of_telling fault)) old new
-untold capture (Output error) old new tells = told_unread capture old new tells.1
-untold capture NoMemory old new tells = ([], inl (Appends-kept old old new [] (Appends-nil old) tells))
+-- it was not shown to its end
+pub err_live : (why : Fault) (result : Result (Option Outcome) Fault) (old new : Option (List ℕ)) → IsErrAnd result (λ fault. fault ≡ why) → LeavesLive (Err why) old new → LeavesSession result old new
+err_live why (Ok outcome) old new is shown = absurd is
+err_live why (Err fault) old new is shown = subst (λ (f : Fault). LeavesShown (status_of_fault f) old new) (sym is) shown
 
--- it was not read again
+-- a session that is over, by what came of the last print
+pub live_ends : (told : Told) (text : List ℕ) (start new : Option (List ℕ)) → ShowsWritten Standard text start new (Ok told) → LeavesLive (Ok told) start new
+live_ends Faultless text start new (front, (is, shows), why) = (front, shows.1)
+live_ends Faulty text start new (front, (is, shows), why) = (front, shows.1)
+live_ends Unread text start new (front, (is, shows), why) = begun_shown 2 front start new (omega arith) (part_some start new (shown_text front) shows)
+
+pub live_fails : (why : StreamFault) (status : ℕ) (text : List ℕ) (start new : Option (List ℕ)) → 1 < status → ShowsWritten Standard text start new (Err why) → LeavesShown status start new
+live_fails why status text start new above (front, (is, shows), told) = begun_shown status front start new above (read_some Standard front start new (Err why) shows)
+
+-- a session that was broken off
+pub live_broken : (why : RelayFault) (fault : RecordFault) (show : LiveShow) (text : List ℕ) (start now : Option (List ℕ)) → IsBrokenOff why fault → IsShowing Standard show text start now → LeavesShown (status_of_fault (fault_of_recorder fault)) start now
+live_broken (relay.Capture error) fault show text start now (file, is) shows = let begun = showing_some Standard show text start now shows in rw is (begun_shown 2 begun.0 start now (omega arith) begun.1)
+live_broken (relay.Waiting error) fault show text start now (file, is) shows = let begun = showing_some Standard show text start now shows in rw is (begun_shown 2 begun.0 start now (omega arith) begun.1)
+
+-- nothing was shown of it
 pub err_untouched : (result : Result (Option Outcome) Fault) (x : Option (List ℕ)) → IsErr result → LeavesSession result x x
 err_untouched (Ok outcome) x is = absurd (let e : false ≡ true = is in cc)
 err_untouched (Err fault) x is = none_shown (status_of_fault fault) x
-
--- it was not told whole
-pub err_untold : (capture : List ℕ) (why : TellFault) (result : Result (Option Outcome) Fault) (old new : Option (List ℕ)) → IsErrAnd result (λ fault. fault ≡ fault_of_telling why)
-    → Tells (first_fault capture) (shown_text capture) old new (Err why) → LeavesSession result old new
-err_untold capture why (Ok outcome) old new is tells = absurd is
-err_untold capture why (Err fault) old new is tells = subst (λ (f : Fault). LeavesShown (status_of_fault f) old new) (sym is) (untold capture why old new tells)
 
 -- ---- the line of a port
 
@@ -122,7 +130,7 @@ line_alone port old new (Err fault) all = line_behind port (status_of_fault faul
 
 line_begun : (port : ℕ) (old new : Option (List ℕ)) → AppendsPart old new (listening_line port) → Leaves 2 old new
 line_begun port old new part =
-    inr (inr (inr (inl (port, [], inr (refl, subst (λ text. AppendsPart old new text) (sym (append-nil (listening_line port))) part)))))
+    inr (inr (inr (inl (port, [], inr (omega arith, subst (λ text. AppendsSome old new text) (sym (append-nil (listening_line port))) (part_some old new (listening_line port) part))))))
 
 line_untold : (port : ℕ) (why : TellFault) (old new : Option (List ℕ)) → TellsListening port old new (Err why) → Leaves (status_of_fault (fault_of_telling why)) old new
 line_untold port (Output error) old new tells = line_begun port old new tells

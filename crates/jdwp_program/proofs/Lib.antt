@@ -1,4 +1,5 @@
 pub mod Numbers
 pub mod Telling
 pub mod StreamLaws
+pub mod LiveLaws
 pub mod Waiting

@@ -212,7 +212,6 @@ fault_counts (fault.Recording path why) = omega arith
 fault_counts (fault.Recorder (recorder.NoFile file error)) = omega arith
 fault_counts (fault.Recorder (recorder.Port number cause)) = omega arith
 fault_counts (fault.Recorder (recorder.Unwritten file error)) = omega arith
-fault_counts (fault.Recorder (recorder.Unread file error)) = omega arith
 fault_counts (fault.Recorder (recorder.Waiting error)) = omega arith
 fault_counts (fault.Recorder recorder.NoMemory) = omega arith
 fault_counts (fault.Port number cause) = omega arith

@@ -1,5 +1,5 @@
 -- What is left of what was told.
-use Rattle.std.proofs.Common.{◌≡◌, ℕ, List, [], append-nil, Option, Some, None, Result, Ok, Err, inl, inr, refl, subst, sym}
+use Rattle.std.proofs.Common.{◌≡◌, ℕ, List, [], append-nil, Option, Some, None, Result, Ok, Err, inl, inr, refl, subst, sym, arith}
 use Rattle.jdwp_show.specs.declared.capture_fault.CaptureFault.{CaptureFault}
 use Rattle.jdwp_show.specs.declared.table.Table.{Table}
 use Rattle.jdwp_show.specs.declared.table.Table.TheVariants.{Standard}
@@ -59,5 +59,5 @@ line_alone port status old new leaves = (port, [], subst (λ text. LeavesText st
 -- of the line of a port
 pub leaves_listened : (port : ℕ) (old new : Option (List ℕ)) (result : Result (Unit {0}) TellFault) → TellsListening port old new result → LeavesListened result old new
 leaves_listened port old new (Ok done) tells = λ status. inr (inr (inr (inl (line_alone port status old new (inl tells)))))
-leaves_listened port old new (Err (Output error)) tells = inr (inr (inr (inl (line_alone port 2 old new (inr (refl, tells))))))
+leaves_listened port old new (Err (Output error)) tells = inr (inr (inr (inl (line_alone port 2 old new (inr (omega arith, (tells.0, tells.2)))))))
 leaves_listened port old new (Err NoMemory) tells = inl tells

@@ -4,6 +4,7 @@ pub mod Captures
 pub mod Drawings
 pub mod Files
 pub mod Listening
+pub mod Live
 pub mod Losses
 pub mod Notices
 pub mod Outputs

@@ -7,6 +7,7 @@ use Rattle.jdwp_show.specs.declared.table.Table.{Table}
 use Rattle.jdwp_show.specs.declared.table.Table.TheVariants.{Standard}
 use Rattle.jdwp_show.specs.Sessions.{first_fault_under}
 use Rattle.jdwp_program.specs.declared.captures.Told.{Told}
+use Rattle.jdwp_program.specs.declared.captures.Told.TheVariants.{Faultless, Faulty, Unread}
 use Rattle.jdwp_program.specs.declared.captures.TellFault.{TellFault}
 use Rattle.jdwp_program.specs.declared.fault.Fault.{Fault}
 use Rattle.jdwp_program.specs.declared.outcome.Outcome.{Outcome}
@@ -47,9 +48,9 @@ LeavesBegun status old new = (table : Table) × (capture : List ℕ) × (0 < sta
 abbrev pub LeavesVersion : ℕ → Option (List ℕ) → Option (List ℕ) → Type 0
 LeavesVersion status old new = ((status ≡ 0) × Appends old new version_line) ⊎ ((status ≡ 2) × AppendsPart old new version_line)
 
--- a run with this status told this text: all of it; or a beginning, and the status is 2
+-- a run with this status told this text: all of it; or a beginning, and the status is that of a fault of the output, of a session or of memory
 abbrev pub LeavesText : ℕ → List ℕ → Option (List ℕ) → Option (List ℕ) → Type 0
-LeavesText status text old new = Appends old new text ⊎ ((status ≡ 2) × AppendsPart old new text)
+LeavesText status text old new = Appends old new text ⊎ ((1 < status) × AppendsSome old new text)
 
 -- these captures in words, one behind the other
 abbrev pub shown_texts : List (List ℕ) → List ℕ
@@ -84,6 +85,13 @@ LeavesCaptureTold result old new = MatchResult result (λ told. Leaves (status_o
 -- by what the words led to
 abbrev pub LeavesOutcome : Result Outcome Fault → Option (List ℕ) → Option (List ℕ) → Type 0
 LeavesOutcome result old new = MatchResult result (λ outcome. Leaves (status_of_outcome outcome) old new) (λ fault. Leaves (status_of_fault fault) old new)
+
+-- by what showing one session led to, while it went on: the session in words; or a beginning
+abbrev pub LeavesLive : Result Told Fault → Option (List ℕ) → Option (List ℕ) → Type 0
+LeavesLive (Ok Faultless) old new = (capture : List ℕ) × Appends old new (shown_text capture)
+LeavesLive (Ok Faulty) old new = (capture : List ℕ) × Appends old new (shown_text capture)
+LeavesLive (Ok Unread) old new = LeavesShown (status_of_told Unread) old new
+LeavesLive (Err fault) old new = LeavesShown (status_of_fault fault) old new
 
 -- by what one session of a recorder led to: captures in words, where more are to be recorded; else by what the words led to
 abbrev pub LeavesSession : Result (Option Outcome) Fault → Option (List ℕ) → Option (List ℕ) → Type 0

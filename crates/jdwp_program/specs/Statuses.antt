@@ -44,7 +44,6 @@ abbrev pub status_of_recorder : RecordFault → ℕ
 status_of_recorder (recorder.NoFile file error) = 1
 status_of_recorder (recorder.Port number cause) = 2
 status_of_recorder (recorder.Unwritten file error) = 2
-status_of_recorder (recorder.Unread file error) = 2
 status_of_recorder (recorder.Waiting error) = 2
 status_of_recorder recorder.NoMemory = 3
 

@@ -180,10 +180,7 @@ fn status_of_recorder(fault: &RecordFault) -> u8
 {
     match fault {
         RecordFault::NoFile(_, _) => 1,
-        RecordFault::Port(_, _)
-        | RecordFault::Unwritten(_, _)
-        | RecordFault::Unread(_, _)
-        | RecordFault::Waiting(_) => 2,
+        RecordFault::Port(_, _) | RecordFault::Unwritten(_, _) | RecordFault::Waiting(_) => 2,
         RecordFault::NoMemory => 3,
     }
 }

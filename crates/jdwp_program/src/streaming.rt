@@ -90,7 +90,7 @@ fn show_onward<I: Read, O: Write>(
 }
 
 /// Whether nothing more is told.
-fn stops(told: &Result<Told, StreamFault>) -> bool
+pub(crate) fn stops(told: &Result<Told, StreamFault>) -> bool
     ensures { result ≡ is_stopped told.now }
 {
     match told {
@@ -100,7 +100,7 @@ fn stops(told: &Result<Told, StreamFault>) -> bool
 }
 
 /// Prints the lines that can be told now that these bytes of the capture were read.
-fn show_more<O: Write>(
+pub(crate) fn show_more<O: Write>(
     judge: &mut CaptureJudge,
     bytes: &[u8],
     out: &mut O,
@@ -115,7 +115,7 @@ fn show_more<O: Write>(
 }
 
 /// Prints what was not printed yet of a capture that was read to its end.
-fn show_rest<O: Write>(judge: CaptureJudge, out: &mut O) -> Result<Told, StreamFault>
+pub(crate) fn show_rest<O: Write>(judge: CaptureJudge, out: &mut O) -> Result<Told, StreamFault>
     ensures { (table : Table) (text : List ℕ) → HasHeardText table judge text → ShowsRest table text (O.contents out.old)
         (O.contents out.new) result }
 {

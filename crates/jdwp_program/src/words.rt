@@ -141,7 +141,7 @@ pub struct Record<'a> {
     pub port: u16,
     /// The file of the first session's capture. Each other session's has its number behind a dot behind the name.
     pub to: &'a str,
-    /// Whether each session is shown in words once it is over.
+    /// Whether each session is shown in words while it goes on.
     pub show: bool,
     /// Whether the first session that is recorded is the last.
     pub once: bool,

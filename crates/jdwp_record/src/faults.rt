@@ -32,15 +32,26 @@ pub enum RecordFault {
     /// The file of this name can't be written. No byte was handed on whose line is not written.
     #[error("{0}: can't be written: {1}")]
     Unwritten(String, io::Error),
-    /// The file of this name, which was written, can't be read again.
-    #[error("{0}: can't be read: {1}")]
-    Unread(String, io::Error),
     /// It can't be awaited that bytes of a session can be moved.
     #[error("it can't be awaited that bytes can be moved: {0}")]
     Waiting(io::Error),
     /// An allocation was refused.
     #[error("no memory")]
     NoMemory,
+}
+
+impl RecordFault {
+    ghost use Rattle.jdwp_record.specs.Faults.{broken_off};
+
+    /// Of a session that is recorded in the file of this name and was broken off for this cause.
+    pub fn broken_off(file: String, fault: RelayFault) -> RecordFault
+        ensures { result ≡ broken_off file fault }
+    {
+        match fault {
+            RelayFault::Capture(error) => RecordFault::Unwritten(file, error),
+            RelayFault::Waiting(error) => RecordFault::Waiting(error),
+        }
+    }
 }
 
 impl From<PortFault> for RecordFault {

@@ -3,11 +3,7 @@ ghost use Rattle.std.specs.Prelude.{◌≡◌, ◌++◌, IfOk, codes, decimal};
 ghost use Rattle.std.specs.String.{string_bytes};
 ghost use Rattle.jdwp_record.specs.Naming.{name_of};
 
-use crate::faults::RecordFault;
 use std::alloc::{AllocError, Global};
-use std::fs;
-use std::io::ErrorKind;
-use std::rt::Files;
 
 /// The name of the file of the session of this number, counted from 1: the first has the name itself, and the others have their number behind
 /// a dot behind it, as `FILE.2`.
@@ -27,23 +23,4 @@ fn numbered(alloc: Global, to: &str, number: u32) -> Result<String, AllocError>
     let mut name = String::from_str(alloc, to)?;
     write!(name, ".{number}")?;
     Ok(name)
-}
-
-/// The capture in the file of the session of this number, read again.
-///
-/// # Errors
-/// `Unread` where it can't be read, or another text was written to it that is not UTF-8; `NoMemory`.
-pub fn read_again<R: Files + AllocGlobal>(
-    rt: &R,
-    to: &str,
-    number: u32,
-) -> Result<String, RecordFault> {
-    let Ok(name) = file_name(rt.alloc(), to, number) else {
-        return Err(RecordFault::NoMemory);
-    };
-    match fs::read_to_string(rt, name.as_str()) {
-        Ok(text) => Ok(text),
-        Err(error) if error.kind() == ErrorKind::OutOfMemory => Err(RecordFault::NoMemory),
-        Err(error) => Err(RecordFault::Unread(name, error)),
-    }
 }

@@ -1,5 +1,8 @@
 //! One session over two connections.
-use crate::faults::SessionFault;
+ghost use Rattle.std.specs.Prelude.{◌≡◌};
+ghost use Rattle.jdwp_record.specs.Faults.{IsBrokenOff};
+
+use crate::faults::{RecordFault, SessionFault};
 use crate::readiness::Watch;
 use crate::streams::{ReadHalf, WriteHalf};
 use jdwp_relay::{Capture, Halves, Relay, RelayFault};
@@ -46,22 +49,93 @@ impl<S: Read + Write + OpenStream + AsRawFd + Drop> Session<S> {
         }
     }
 
-    /// Hands on what both ends send until both are done, and writes it down before as a capture on this writer. Then both connections are closed.
+    /// Hands on what both ends send until both are done, and writes it down before as this capture. Then both connections are closed.
     ///
     /// # Errors
     /// `Capture` where the capture can't be written; `Waiting` where no wait succeeds.
-    pub(crate) fn run<W: Write + Drop>(
-        mut self,
-        alloc: Global,
-        writer: W,
-    ) -> Result<(), RelayFault> {
-        let mut capture = Capture::new(alloc, writer);
+    fn run<W: Write>(mut self, capture: &mut Capture<W>) -> Result<(), RelayFault> {
         self.relay.run(
             &mut self.debugger,
             &mut self.target,
-            &mut capture,
+            capture,
             &mut self.watch,
         )
+    }
+
+    /// The same for one turn in both directions. Whether the session goes on.
+    ///
+    /// # Errors
+    /// As those of `run`.
+    fn step<W: Write>(&mut self, capture: &mut Capture<W>) -> Result<bool, RelayFault> {
+        self.relay.step(
+            &mut self.debugger,
+            &mut self.target,
+            capture,
+            &mut self.watch,
+        )
+    }
+}
+
+/// A session between a debugger and a target that is recorded in a file.
+#[derive(Drop)]
+pub struct Recording<S, W> {
+    session: Session<S>,
+    capture: Capture<W>,
+    /// The name of the file.
+    file: String,
+}
+
+impl<S: Read + Write + OpenStream + AsRawFd + Drop, W: Write + Drop> Recording<S, W> {
+    /// This session, in the file of this name, to which its capture is written.
+    pub(crate) fn new(
+        alloc: Global,
+        session: Session<S>,
+        writer: W,
+        file: String,
+    ) -> Recording<S, W> {
+        Recording {
+            session,
+            capture: Capture::new(alloc, writer),
+            file,
+        }
+    }
+
+    /// Hands on what both ends send, unchanged, until both are done, and writes it down as a capture, each line before its bytes are handed on.
+    /// Then both connections are closed.
+    ///
+    /// # Errors
+    /// `Unwritten` where the capture can't be written, and `Waiting` where no wait succeeds. The capture has each byte that was handed on.
+    pub fn run(self) -> Result<(), RecordFault> {
+        let Recording {
+            session,
+            mut capture,
+            file,
+        } = self;
+        match session.run(&mut capture) {
+            Ok(()) => Ok(()),
+            Err(fault) => Err(RecordFault::broken_off(file, fault)),
+        }
+    }
+
+    /// One turn of the same: bytes are moved at most once in each direction. Where none could be moved and the session is not over, it waits until
+    /// some can. Whether the session goes on.
+    ///
+    /// # Errors
+    /// `Capture` where the capture can't be written, and `Waiting` where no wait succeeds (`broken_off`). The session is of no use any more.
+    pub fn step(&mut self) -> Result<bool, RelayFault> {
+        self.session.step(&mut self.capture)
+    }
+
+    /// The lines of the capture that the last turn wrote.
+    pub fn fresh(&self) -> &[u8] {
+        self.capture.fresh()
+    }
+
+    /// The session was broken off for this cause: both connections are closed. The capture has each byte that was handed on.
+    pub fn broken_off(self, fault: RelayFault) -> RecordFault
+        ensures { IsBrokenOff fault result }
+    {
+        RecordFault::broken_off(self.file, fault)
     }
 }
 
@@ -100,7 +174,7 @@ where
         Err(error) if error.kind() == ErrorKind::OutOfMemory => return Err(SessionFault::NoMemory),
         Err(error) => return Err(SessionFault::Connection(error)),
     };
-    match session.run(alloc, writer) {
+    match session.run(&mut Capture::new(alloc, writer)) {
         Ok(()) => Ok(()),
         Err(fault) => Err(SessionFault::Relay(fault)),
     }

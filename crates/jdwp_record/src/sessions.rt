@@ -4,13 +4,10 @@ ghost use Rattle.std.specs.Prelude.{◌≡◌, IfErr, IfOk};
 use crate::faults::RecordFault;
 use crate::naming::file_name;
 use crate::notices::RecordNotice;
-use crate::recording::Session;
+use crate::recording::{Recording, Session};
 use jdwp_port::{PortCause, PortFault, PortListener, Taken, connect, may_pass, pause};
-use jdwp_relay::RelayFault;
 use std::fs;
-use std::io::{Read, Write};
-use std::net::{Net, OpenStream};
-use std::os::fd::AsRawFd;
+use std::net::Net;
 use std::rt::{Clock, Files};
 
 /// What stands between the debuggers that come to a port and a target at another one, and writes down what they say.
@@ -42,33 +39,31 @@ impl<'a> Recorder<'a> {
         }
     }
 
-    /// Takes the next debugger that comes to this port, connects it to the target, hands on what both send, unchanged, and writes it down as a
-    /// capture, each line before its bytes are handed on, in a new file: one that was there is emptied. A debugger that comes meanwhile waits
-    /// until the session is over.
+    /// Takes the next debugger that comes to this port, connects it to the target, and makes the file of its capture: one that was there is
+    /// emptied. The session is then for the caller to run. A debugger that comes meanwhile waits until the next call.
     ///
     /// Where no connection is taken for a cause that passes, and where the target can't be reached, no file is made; the debugger's
     /// connection is closed then. The next call is for the next one.
     ///
     /// # Errors
-    /// `Port` where no connection is taken, at a cause that does not pass or behind too many in a row; `NoFile`, `Unwritten`, `Waiting` and
-    /// `NoMemory`. The connections of the session are closed then, and its capture has each byte that was handed on. The next call is for the
-    /// same session's number.
-    pub fn record_next<R: Files + Clock + AllocGlobal, N: Net>(
+    /// `Port` where no connection is taken, at a cause that does not pass or behind too many in a row; `NoFile` and `NoMemory`. The connections of
+    /// the session are closed then, and the next call is for the same session's number.
+    pub fn begin_next<R: Files + Clock + AllocGlobal, N: Net>(
         &mut self,
         rt: &R,
         net: &N,
         listener: &PortListener<N::Listener>,
-    ) -> Result<RecordNotice, RecordFault>
+    ) -> Result<RecordNotice<N::Stream, R::File>, RecordFault>
         ensures ok { IfOk result (λ notice. Records self.old notice self.new) }
         ensures err { IfErr result (λ fault. self.new ≡ self.old) }
     {
         pause(rt, self.in_a_row);
-        let happening = record_connection(rt, net, listener, self)?;
+        let happening = take_connection(rt, net, listener, self)?;
         Ok(self.count(happening))
     }
 
     /// Counts what happened, and tells it.
-    fn count(&mut self, happening: Happening) -> RecordNotice
+    fn count<S, W>(&mut self, happening: Happening<S, W>) -> RecordNotice<S, W>
         ensures { Records self.old result self.new }
     {
         match happening {
@@ -80,34 +75,34 @@ impl<'a> Recorder<'a> {
                 self.in_a_row = 0;
                 RecordNotice::Unreached(self.target, cause)
             }
-            Happening::Recorded => {
+            Happening::Begun(session) => {
                 let number = self.number;
                 self.in_a_row = 0;
                 self.number = number.saturating_add(1);
-                RecordNotice::Recorded(number)
+                RecordNotice::Begun(number, session)
             }
         }
     }
 }
 
-/// What came of one call that was to take a connection and record its session.
-#[derive(Clone, Copy)]
-enum Happening {
+/// What came of one call that was to take a connection and begin its session.
+#[derive(Drop)]
+enum Happening<S, W> {
     /// Nothing, for a cause that passes.
     InVain(PortCause),
     /// The target was not reached.
     Unreached(PortCause),
-    /// A session was recorded.
-    Recorded,
+    /// A session begins.
+    Begun(Recording<S, W>),
 }
 
-/// Takes the next connection, and records its session.
-fn record_connection<R: Files + AllocGlobal, N: Net>(
+/// Takes the next connection, and begins its session.
+fn take_connection<R: Files + AllocGlobal, N: Net>(
     rt: &R,
     net: &N,
     listener: &PortListener<N::Listener>,
     recorder: &Recorder<'_>,
-) -> Result<Happening, RecordFault> {
+) -> Result<Happening<N::Stream, R::File>, RecordFault> {
     let in_a_row = recorder.in_a_row;
     let debugger = match listener.take(in_a_row)? {
         Taken::Stream(stream) => stream,
@@ -118,29 +113,27 @@ fn record_connection<R: Files + AllocGlobal, N: Net>(
         Err(PortFault::Port(_, cause)) => return Ok(Happening::Unreached(cause)),
         Err(PortFault::NoMemory) => return Err(RecordFault::NoMemory),
     };
-    match Session::new(rt.alloc(), net, debugger, target) {
-        Ok(session) => record_session(rt, recorder, session),
-        Err(error) if may_pass(error, in_a_row) => Ok(Happening::InVain(PortCause::of(error))),
-        Err(error) => Err(RecordFault::from(PortFault::of_port(listener.port(), error))),
-    }
+    let session = match Session::new(rt.alloc(), net, debugger, target) {
+        Ok(session) => session,
+        Err(error) if may_pass(error, in_a_row) => {
+            return Ok(Happening::InVain(PortCause::of(error)));
+        }
+        Err(error) => return Err(RecordFault::from(PortFault::of_port(listener.port(), error))),
+    };
+    let (file, name) = make_file(rt, recorder)?;
+    Ok(Happening::Begun(Recording::new(rt.alloc(), session, file, name)))
 }
 
-/// Records this session in a new file.
-fn record_session<R: Files + AllocGlobal, S: Read + Write + OpenStream + AsRawFd + Drop>(
+/// The file of the next session, which is empty, and its name.
+fn make_file<R: Files + AllocGlobal>(
     rt: &R,
     recorder: &Recorder<'_>,
-    session: Session<S>,
-) -> Result<Happening, RecordFault> {
+) -> Result<(R::File, String), RecordFault> {
     let Ok(name) = file_name(rt.alloc(), recorder.to, recorder.number) else {
         return Err(RecordFault::NoMemory);
     };
-    let file = match fs::create(rt, name.as_str()) {
-        Ok(file) => file,
-        Err(error) => return Err(RecordFault::NoFile(name, error)),
-    };
-    match session.run(rt.alloc(), file) {
-        Ok(()) => Ok(Happening::Recorded),
-        Err(RelayFault::Capture(error)) => Err(RecordFault::Unwritten(name, error)),
-        Err(RelayFault::Waiting(error)) => Err(RecordFault::Waiting(error)),
+    match fs::create(rt, name.as_str()) {
+        Ok(file) => Ok((file, name)),
+        Err(error) => Err(RecordFault::NoFile(name, error)),
     }
 }

@@ -29,7 +29,7 @@ pub(crate) fn recorded_to<'a>(alloc: Global) -> Arg<'a> {
 
 /// That sessions are shown that were recorded.
 pub(crate) fn show<'a>(alloc: Global) -> Arg<'a> {
-    let help = "Shows each session in words once it is over";
+    let help = "Shows each session in words while it goes on";
     flag(alloc, "show", help)
 }
 

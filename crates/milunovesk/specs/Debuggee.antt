@@ -6,6 +6,7 @@ pub use Rattle.jdwp_debuggee.specs.Debuggees
 pub use Rattle.jdwp_debuggee.specs.Deferring
 pub use Rattle.jdwp_debuggee.specs.Effects
 pub use Rattle.jdwp_debuggee.specs.Facts
+pub use Rattle.jdwp_debuggee.specs.Invoking
 pub use Rattle.jdwp_debuggee.specs.Replies
 pub use Rattle.jdwp_debuggee.specs.Reports
 pub use Rattle.jdwp_debuggee.specs.Running
@@ -14,5 +15,6 @@ pub use Rattle.jdwp_debuggee.specs.Settings
 pub use Rattle.jdwp_debuggee.specs.State
 pub use Rattle.jdwp_debuggee.specs.StepParts
 pub use Rattle.jdwp_debuggee.specs.Steps
+pub use Rattle.jdwp_debuggee.specs.Strings
 pub use Rattle.jdwp_debuggee.specs.Visits
 pub use Rattle.jdwp_debuggee.specs.Wants

@@ -3,6 +3,7 @@ pub use Rattle.jdwp_layout.specs.CommandNumbers
 pub use Rattle.jdwp_layout.specs.CommandTable
 pub use Rattle.jdwp_layout.specs.EventKindNumbers
 pub use Rattle.jdwp_layout.specs.Grammar
+pub use Rattle.jdwp_layout.specs.Invocations
 pub use Rattle.jdwp_layout.specs.Keeping
 pub use Rattle.jdwp_layout.specs.Meanings
 pub use Rattle.jdwp_layout.specs.ModifierKindNumbers

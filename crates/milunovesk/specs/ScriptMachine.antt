@@ -1,6 +1,8 @@
 -- What contracts say of the machines of scripts.
 pub use Rattle.jdwp_script_machine.specs.ClassAnswers
+pub use Rattle.jdwp_script_machine.specs.InvocationAnswers
 pub use Rattle.jdwp_script_machine.specs.Machines
+pub use Rattle.jdwp_script_machine.specs.Made
 pub use Rattle.jdwp_script_machine.specs.Runs
 pub use Rattle.jdwp_script_machine.specs.ScriptMeaning
 pub use Rattle.jdwp_script_machine.specs.Sound

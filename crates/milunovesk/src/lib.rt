@@ -22,7 +22,7 @@ pub use jdwp_value::{
 // The table of commands and their data.
 pub use jdwp_layout::{
     Answer, CommandRow, Data, Datum, Entry, Field, Item, Layout, Layouts, Scalar, event_kinds,
-    layout_of, modifier_kinds, numbers, read, validate, write,
+    invocation, layout_of, modifier_kinds, numbers, read, validate, write,
 };
 
 // Event requests, and what reports.

@@ -3,6 +3,7 @@
 mod apart_tests;
 mod attaching_tests;
 mod cutting_tests;
+mod live_tests;
 mod plan_tests;
 mod port_tests;
 mod program_tests;

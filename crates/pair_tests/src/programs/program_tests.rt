@@ -17,8 +17,8 @@ use std::process::Abort;
 
 /// Takes so many bytes a call at most. The call of this number, counted from 1, fails.
 #[derive(Drop)]
-struct Output {
-    bytes: Vec<u8>,
+pub(super) struct Output {
+    pub(super) bytes: Vec<u8>,
     most: usize,
     calls: usize,
     fails_at: usize,
@@ -26,7 +26,7 @@ struct Output {
 }
 
 impl Output {
-    fn new(alloc: Global, most: usize, fails_at: usize, kind: ErrorKind) -> Output {
+    pub(super) fn new(alloc: Global, most: usize, fails_at: usize, kind: ErrorKind) -> Output {
         Output {
             bytes: Vec::new(alloc),
             most,

@@ -2,7 +2,7 @@
 use super::packets::{ANSWERS, ASKS};
 use crate::asserts::expect_same;
 use jdwp_port::PortListener;
-use jdwp_record::{RecordFault, RecordNotice, Recorder};
+use jdwp_record::{RecordFault, RecordNotice, Recorder, Recording};
 use std::alloc::Global;
 use std::cell::Cell;
 use std::io::{ErrorKind, Read, Write};
@@ -97,12 +97,17 @@ fn caller<R: Net<Stream = TcpStream, Listener = TcpListener> + Abort>(
 fn holds_capture<R: Files + AllocGlobal + Abort>(rt: &R, file: &str) {
     let text = fs::read_to_string(rt, file).expect(rt, "the file is read");
     fs::remove_file(rt, file).expect(rt, "the file is removed");
+    is_capture(rt, rt.alloc(), text.as_bytes());
+}
+
+/// This is the capture of the session, with the lines of both ends in whatever order they came.
+fn is_capture(rt: &impl Abort, alloc: Global, text: &[u8]) {
     let up = "> 4a4457502d48616e647368616b650000000b00000001000107\n";
     let down =
         "< 4a4457502d48616e647368616b650000001f000000018000000000000800000008000000080000000800000008\n";
-    let first = format!(in rt.alloc(); "{up}{down}").expect(rt, "memory");
-    let second = format!(in rt.alloc(); "{down}{up}").expect(rt, "memory");
-    assert!(rt; text.as_str() == first.as_str() || text.as_str() == second.as_str());
+    let first = format!(in alloc; "{up}{down}").expect(rt, "memory");
+    let second = format!(in alloc; "{down}{up}").expect(rt, "memory");
+    assert!(rt; text == first.as_bytes() || text == second.as_bytes());
 }
 
 /// A debugger reads what the target said, up to its end.
@@ -110,6 +115,29 @@ fn reads_answers(rt: &impl Abort, alloc: Global, mut debugger: TcpStream) {
     let mut all = Vec::new(alloc);
     debugger.read_to_end(&mut all).expect(rt, "all is read");
     expect_same(rt, &all.as_slice(), &ANSWERS.as_slice());
+}
+
+/// A session is recorded turn by turn, and the lines that its turns wrote are those of its capture.
+fn by_turns<S: Read + Write + OpenStream + AsRawFd + Drop, W: Write + Drop>(
+    rt: &impl Abort,
+    alloc: Global,
+    mut session: Recording<S, W>,
+) -> Result<(), RecordFault> {
+    let mut lines = Vec::new(alloc);
+    for _ in 0..1000 {
+        let goes_on = match session.step() {
+            Ok(goes_on) => goes_on,
+            Err(fault) => return Err(session.broken_off(fault)),
+        };
+        lines
+            .extend_from_slice(session.fresh())
+            .expect(rt, "memory");
+        if !goes_on {
+            is_capture(rt, alloc, &lines);
+            return Ok(());
+        }
+    }
+    panic!(rt; "it goes on")
 }
 
 /// A recorder that takes so many connections, the first of which find no target, and goes on until none is taken any more: how many targets were
@@ -137,10 +165,18 @@ where
     let mut recorder = Recorder::new(port, to);
     let (mut unreached, mut recorded): (u32, u32) = (0, 0);
     for _ in 0..10 {
-        match recorder.record_next(rt, &net, &listener) {
+        match recorder.begin_next(rt, &net, &listener) {
             Ok(RecordNotice::Unreached(_, _)) => unreached = unreached.saturating_add(1),
-            Ok(RecordNotice::Recorded(number)) => {
+            Ok(RecordNotice::Begun(number, session)) => {
                 recorded = recorded.saturating_mul(10).saturating_add(number);
+                let run = if number == 1 {
+                    session.run()
+                } else {
+                    by_turns(rt, rt.alloc(), session)
+                };
+                if let Err(fault) = run {
+                    return (unreached, recorded, fault);
+                }
             }
             Ok(RecordNotice::Again(_)) => {}
             Err(fault) => return (unreached, recorded, fault),

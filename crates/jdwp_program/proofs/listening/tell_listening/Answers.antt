@@ -1,4 +1,4 @@
-use Rattle.std.proofs.Common.{rules, ◌≡◌, refl, inl, inr, length, take, arith}
+use Rattle.std.proofs.Common.{rules, ◌≡◌, inl, inr, length, take, arith}
 use Rattle.std.proofs.lemmas.List.{take_all}
 use Rattle.std.specs.Io.KnownBytes.{Appends}
 use Rattle.jdwp_program.specs.Listening.{listening_line}
@@ -21,4 +21,4 @@ returns-clause-tells g c = (c.print.result.0, search rules, search rules)
 pub returns-clause-leaves : goal.returns-clause-leaves
 returns-clause-leaves g c =
     let part : AppendsPart (g.O.Write.contents c.args.out.now) (g.O.Write.contents c.print.new.out) (listening_line c.args.port) = (c.print.result.0, search rules, search rules) in
-    inr (inr (inr (inl (line_alone c.args.port 2 _ _ (inr (refl, part))))))
+    inr (inr (inr (inl (line_alone c.args.port 2 _ _ (inr (omega arith, (part.0, part.2)))))))

@@ -1,0 +1,5 @@
+use Rattle.jdwp_program.proofs.StreamLaws.{nothing_shown}
+use Rattle.jdwp_program.proofs.live.LiveShow.under.Goals as goal
+
+pub returns : goal.returns
+returns c = λ out. (c.under.ensures, nothing_shown c.args.table out)
