@@ -2,8 +2,8 @@
 use Rattle.std.proofs.Common.{◌≡◌, ◌≢◌, ℕ, ◌≤◌, ◌+◌, Bool, true, false, not, ◌&&◌, inl, inr, List, [], ◌∷◌, ◌++◌, length, Option, Some, None, Result, Ok, Err, refl, sym, ◌∙◌, ap, subst, arith}
 use Rattle.std.proofs.Math.Seq.{drop-nil}
 use Rattle.std.proofs.lemmas.List.{append-nil, append_assoc}
+use Rattle.jdwp_wire.specs.Streams.{IsFront}
 use Rattle.jdwp_end.specs.Ends.{End, front_of, is_open, room_of}
-use Rattle.jdwp_end.specs.Runs.{IsFront}
 use Rattle.jdwp_machine.specs.Meanings.{Meaning}
 use Rattle.jdwp_action.specs.Actions.{Command}
 use Rattle.jdwp_debugger.specs.Asking.{HasAsked, refusal_of_ask}

@@ -5,12 +5,11 @@ use Rattle.std.specs.List.{list_any}
 use Rattle.std.specs.Option.{option_map}
 use Rattle.std.proofs.lemmas.List.{append-nil, append_assoc, map-append}
 use Rattle.jdwp_wire.specs.Streams as streams
-use Rattle.jdwp_wire.specs.Streams.{More, stream}
+use Rattle.jdwp_wire.specs.Streams.{More, stream, IsFront}
 use Rattle.jdwp_wire.specs.Frames.{header_bytes}
 use Rattle.jdwp_wire.specs.Widths.{Widths}
 use Rattle.jdwp_wire.specs.declared.packet.Header.{Header}
 use Rattle.jdwp_end.specs.Ends.{front_of, is_open, is_paused, next_of}
-use Rattle.jdwp_end.specs.Runs.{IsFront}
 use Rattle.jdwp_machine.specs.Meanings.{Meaning}
 use Rattle.jdwp_action.specs.Actions.{Command}
 use Rattle.jdwp_debuggee.specs.Settings.{Settings}

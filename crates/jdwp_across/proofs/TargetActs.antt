@@ -3,12 +3,11 @@ use Rattle.std.proofs.Common.{◌≡◌, ℕ, inl, inr, Bool, true, false, ◌||
 use Rattle.std.specs.Prelude.{nat_le}
 use Rattle.std.proofs.lemmas.List.{append-nil, append_assoc}
 use Rattle.jdwp_wire.specs.Streams as streams
-use Rattle.jdwp_wire.specs.Streams.{More, stream}
+use Rattle.jdwp_wire.specs.Streams.{More, stream, IsFront}
 use Rattle.jdwp_wire.specs.Widths.{Widths}
 use Rattle.jdwp_wire.specs.declared.packet.PacketKind.{PacketKind}
 use Rattle.jdwp_wire.specs.declared.packet.PacketKind.TheVariants as kind
 use Rattle.jdwp_end.specs.Ends.{front_of, is_established, is_open, is_paused, next_of}
-use Rattle.jdwp_end.specs.Runs.{IsFront}
 use Rattle.jdwp_event.specs.Composites.{CompositeMeaning}
 use Rattle.jdwp_machine.specs.Meanings.{Meaning}
 use Rattle.jdwp_debuggee.specs.Settings.{Settings}

@@ -1,6 +1,6 @@
 -- The acts of a target and of a debugger in two programs, in one order, and what they take of the connection.
 use Rattle.std.specs.Prelude.{List, [], ◌∷◌, ◌++◌}
-use Rattle.jdwp_end.specs.Runs.{IsFront}
+use Rattle.jdwp_wire.specs.Streams.{IsFront}
 use Rattle.jdwp_machine.specs.Meanings.{Meaning}
 use Rattle.jdwp_across.specs.Programs.{Act, Does, Programs}
 

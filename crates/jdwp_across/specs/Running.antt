@@ -1,7 +1,7 @@
 -- What `serve` did to its target and `attach` to its debugger, as lists of acts.
 use Rattle.std.specs.Prelude.{◌≡◌, ◌≢◌, false, List, ◌++◌, Err}
+use Rattle.jdwp_wire.specs.Streams.{IsFront}
 use Rattle.jdwp_end.specs.Ends.{front_of, is_open}
-use Rattle.jdwp_end.specs.Runs.{IsFront}
 use Rattle.jdwp_machine.specs.Meanings.{Meaning}
 use Rattle.jdwp_target.specs.Targets.{Target}
 use Rattle.jdwp_debugger.specs.Debuggers.{Debugger, lost_debugger}

@@ -3,9 +3,8 @@ use Rattle.std.proofs.Common.{◌≡◌, ◌≢◌, ◌∙◌, ℕ, ◌<◌, ◌
 use Rattle.std.proofs.lemmas.Grind.{common_steps}
 use Rattle.std.proofs.lemmas.List.{append-nil}
 use Rattle.jdwp_wire.specs.Handshake.{handshake_bytes}
-use Rattle.jdwp_wire.specs.Streams.{More}
+use Rattle.jdwp_wire.specs.Streams.{More, IsFront}
 use Rattle.jdwp_end.specs.Ends.{front_of, is_open}
-use Rattle.jdwp_end.specs.Runs.{IsFront}
 use Rattle.jdwp_debugger.specs.declared.faults.DebuggerFault.{DebuggerFault}
 use Rattle.jdwp_debugger.specs.declared.faults.DebuggerFault.TheVariants as code
 use Rattle.jdwp_wire.specs.Widths.{Widths}

@@ -2,11 +2,10 @@
 use Rattle.std.specs.Prelude.{◌≡◌, ◌≢◌, ◌⊎◌, ℕ, ◌<◌, ◌+◌, true, false, List, [], ◌∷◌, ◌++◌, length, Option, Some, None, is_some, Ok, Err, slice_get}
 use Rattle.std.specs.List.{list_any}
 use Rattle.jdwp_wire.specs.FaultNumbers as frame
-use Rattle.jdwp_wire.specs.Streams.{More}
+use Rattle.jdwp_wire.specs.Streams.{More, IsFront}
 use Rattle.jdwp_wire.specs.Widths.{Widths}
 use Rattle.jdwp_layout.specs.declared.answer.Answer.{Answer}
 use Rattle.jdwp_end.specs.Ends.{front_of, is_open}
-use Rattle.jdwp_end.specs.Runs.{IsFront}
 use Rattle.jdwp_action.specs.Actions.{Command}
 use Rattle.jdwp_debugger.specs.declared.asking.Refused as asking
 use Rattle.jdwp_debugger.specs.declared.asking.Refused.TheVariants as refusal

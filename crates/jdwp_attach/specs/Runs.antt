@@ -1,7 +1,7 @@
 -- What an engine that runs a debugger did on its pipes.
 use Rattle.std.specs.Prelude.{◌≡◌, ◌≢◌, ◌⊎◌, ℕ, ◌≤◌, ◌+◌, ◌&&◌, Bool, true, false, List, [], ◌∷◌, ◌++◌, length, None, Result, Ok}
+use Rattle.jdwp_wire.specs.Streams.{IsFront}
 use Rattle.jdwp_end.specs.Ends.{front_of, is_open, room_of}
-use Rattle.jdwp_end.specs.Runs.{IsFront}
 use Rattle.jdwp_action.specs.Actions.{Command}
 use Rattle.jdwp_debugger.specs.declared.faults.DebuggerFault.{DebuggerFault}
 use Rattle.jdwp_debugger.specs.declared.turning.Read.{Read}

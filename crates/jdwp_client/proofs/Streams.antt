@@ -3,7 +3,7 @@ use Rattle.std.proofs.Common.{◌≡◌, ◌∙◌, ℕ, ◌++◌, List, [], Boo
 use Rattle.std.proofs.lemmas.List.{append-nil}
 use Rattle.jdwp_wire.specs.declared.packet.Header.{Header}
 use Rattle.jdwp_wire.specs.Streams as streams
-use Rattle.jdwp_wire.specs.Streams.{NextMessage, Whole, More, Fault}
+use Rattle.jdwp_wire.specs.Streams.{NextMessage, Whole, More, Fault, IsFront}
 use Rattle.jdwp_wire.specs.Widths.{Widths}
 use Rattle.jdwp_wire.specs.Limits.{Limits}
 use Rattle.jdwp_end.specs.Ends.{front_of, is_open}
@@ -11,7 +11,6 @@ use Rattle.jdwp_end.specs.Sessions.{Session}
 use Rattle.std.specs.List.{list_any}
 use Rattle.jdwp_mirror.specs.Messages.{Reply, Report}
 use Rattle.jdwp_mirror.specs.Mirror.{ends}
-use Rattle.jdwp_end.specs.Runs.{IsFront}
 use Rattle.jdwp_action.specs.Actions.{Command}
 use Rattle.jdwp_end.specs.Story.{Story}
 use Rattle.jdwp_debugger.specs.declared.faults.DebuggerFault.{DebuggerFault}

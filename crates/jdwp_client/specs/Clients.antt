@@ -2,9 +2,8 @@
 -- it; of the debugger's steps `DebuggerTurns` and `Asking` of jdwp_debugger say what they do (JDWP specification, "JDWP Overview").
 use Rattle.std.specs.Prelude.{◌≡◌, ◌≢◌, ◌⊎◌, ℕ, ◌+◌, ◌-◌, ◌^◌, ◌≤◌, ◌==◌, Bool, true, false, List, [], ◌∷◌, ◌++◌, length, Option, Some, None, is_none, Ok, Err}
 use Rattle.std.specs.List.{flat_map, list_any, position}
-use Rattle.jdwp_wire.specs.Streams.{More}
+use Rattle.jdwp_wire.specs.Streams.{More, IsFront}
 use Rattle.jdwp_end.specs.Ends.{front_of, is_open, room_of}
-use Rattle.jdwp_end.specs.Runs.{IsFront}
 use Rattle.jdwp_action.specs.Actions.{Command}
 use Rattle.jdwp_event.specs.Composites.{CompositeMeaning}
 use Rattle.jdwp_layout.specs.declared.answer.Answer.{Answer}

@@ -1,7 +1,7 @@
 -- What went through a client's pipe, beside what its debugger was fed and what was taken from it to leave.
 use Rattle.std.specs.Prelude.{◌≡◌, ℕ, Bool, List, ◌++◌}
+use Rattle.jdwp_wire.specs.Streams.{IsFront}
 use Rattle.jdwp_wire.specs.Limits.{Limits}
-use Rattle.jdwp_end.specs.Runs.{IsFront}
 use Rattle.jdwp_action.specs.Actions.{Command}
 use Rattle.jdwp_end.specs.Story.{Story}
 use Rattle.jdwp_debugger.specs.declared.order.Order.{Order}

@@ -5,11 +5,11 @@ use Rattle.std.proofs.lemmas.List.{append-nil, take-append-drop, length-take, le
 use Rattle.std.proofs.Math.Seq.{take-nil, drop-nil}
 use Rattle.jdwp_wire.specs.Bytes.{IsBytes}
 use Rattle.jdwp_wire.specs.Limits.{Limits}
-use Rattle.jdwp_wire.specs.Streams.{Message, Handshake, Packet, Whole, message_bytes, stream, IsConversation, IsPacketMessage}
+use Rattle.jdwp_wire.specs.Streams.{Message, Handshake, Packet, Whole, message_bytes, stream, IsConversation, IsPacketMessage, IsFront}
 use Rattle.jdwp_end.specs.declared.phase.Phase.{Phase}
 use Rattle.jdwp_end.specs.declared.phase.Phase.TheVariants.{Closed, AwaitingHandshake, Established}
 use Rattle.jdwp_end.specs.Ends.{End, is_open, front_of, new_end, opened_end, closed_end, lost_end, with_fed, with_handled, with_enqueued, with_taken}
-use Rattle.jdwp_end.specs.Runs.{Carries, IsFront}
+use Rattle.jdwp_end.specs.Runs.{Carries}
 use Rattle.jdwp_end.specs.FrontLaws.{IsDue, due-open, in-front}
 
 pub stream-append : (ms ns : List Message) → stream (ms ++ ns) ≡ stream ms ++ stream ns

@@ -1,8 +1,8 @@
 -- What moving bytes between an end of a session and a pipe leaves of both. Of the end it is said what it has of an `End`, and what it is
 -- where bytes came, or left.
 use Rattle.std.specs.Prelude.{◌≡◌, ℕ, ◌≤◌, List, length}
+use Rattle.jdwp_wire.specs.Streams.{IsFront}
 use Rattle.jdwp_end.specs.Ends.{End, room_of}
-use Rattle.jdwp_end.specs.Runs.{IsFront}
 use Rattle.jdwp_end.specs.Story.{FailsWrite, Story, with_read, with_written}
 
 -- all that waited to leave was taken and written

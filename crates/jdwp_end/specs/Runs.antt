@@ -1,12 +1,8 @@
 -- What holds of an end over a whole session, from bytes to bytes.
 use Rattle.std.specs.Prelude.{◌≡◌, ◌≢◌, ℕ, true, false, List, [], ◌++◌, length}
-use Rattle.jdwp_wire.specs.Streams.{Message, stream, IsConversation}
+use Rattle.jdwp_wire.specs.Streams.{Message, stream, IsConversation, IsFront}
 use Rattle.jdwp_end.specs.declared.phase.Phase.TheVariants.{AwaitingHandshake, Established}
 use Rattle.jdwp_end.specs.Ends.{End, is_open}
-
--- front, and then some rest, is the whole
-abbrev pub IsFront : List ℕ → List ℕ → Type 0
-IsFront front whole = (rest : List ℕ) × (whole ≡ front ++ rest)
 
 -- These messages were handled in the session: the bytes fed are theirs, which are the first whole ones, and then a rest, which at an
 -- open end is what came and was not handled; the bytes taken are a beginning of those enqueued to leave; and where no loss was noticed,

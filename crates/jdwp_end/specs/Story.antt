@@ -1,6 +1,6 @@
 -- What went through a pipe, and how often its calls failed.
 use Rattle.std.specs.Prelude.{◌≡◌, ℕ, ◌<◌, ◌+◌, ◌*◌, zero, suc, List, [], ◌∷◌, ◌++◌, take, Result, Ok, Err}
-use Rattle.jdwp_end.specs.Runs.{IsFront}
+use Rattle.jdwp_wire.specs.Streams.{IsFront}
 
 -- read: the bytes that were read; written: those that were written; unflushed: those of them behind the last flush that succeeded;
 -- rooms: the reads with room for a byte; early: those of them before which something was not flushed; ends: those of them that gave 0;

@@ -5,11 +5,11 @@ use Rattle.std.proofs.lemmas.Grind.{common_steps}
 use Rattle.std.proofs.lemmas.List.{append-nil, length-drop, take_all}
 use Rattle.jdwp_wire.specs.Bytes.{IsBytes}
 use Rattle.jdwp_wire.specs.FaultNumbers.{fault_number}
-use Rattle.jdwp_wire.specs.Streams.{Message, More}
+use Rattle.jdwp_wire.specs.Streams.{Message, More, IsFront}
 use Rattle.jdwp_wire.specs.declared.frame.FrameFault.{FrameFault}
 use Rattle.jdwp_end.specs.Ends.{front_of, is_established, is_open, is_paused, next_of}
 use Rattle.jdwp_end.specs.Ends as ends
-use Rattle.jdwp_end.specs.Runs.{Carries, IsFront}
+use Rattle.jdwp_end.specs.Runs.{Carries}
 use Rattle.jdwp_end.specs.CarryingLaws.{carries-taken}
 use Rattle.jdwp_end.specs.FrontLaws.{front-fault, front-next, front-whole}
 use Rattle.jdwp_machine.specs.Meanings.{Meaning}

@@ -1,8 +1,8 @@
 -- What an engine that runs a target did on a pipe.
 use Rattle.std.specs.Prelude.{◌≡◌, ℕ, ◌<◌, ◌≤◌, ◌+◌, true, false, List, [], ◌++◌}
+use Rattle.jdwp_wire.specs.Streams.{IsFront}
 use Rattle.jdwp_end.specs.declared.phase.Phase.TheVariants.{AwaitingHandshake}
 use Rattle.jdwp_end.specs.Ends.{is_open}
-use Rattle.jdwp_end.specs.Runs.{IsFront}
 use Rattle.jdwp_machine.specs.Meanings.{Meaning}
 use Rattle.jdwp_target.specs.Standings.{stands}
 use Rattle.jdwp_target.specs.Deeds.{with_none_deferred}

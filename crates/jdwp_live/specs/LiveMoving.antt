@@ -1,7 +1,7 @@
 -- What moving bytes between an end of a session and a live pipe leaves of both.
 use Rattle.std.specs.Prelude.{◌≡◌, ℕ, ◌<◌, ◌≤◌, Bool, true, false, List, [], length}
+use Rattle.jdwp_wire.specs.Streams.{IsFront}
 use Rattle.jdwp_end.specs.Ends.{End, room_of}
-use Rattle.jdwp_end.specs.Runs.{IsFront}
 use Rattle.jdwp_live.specs.declared.pipes.pipe.Patience.{Patience}
 use Rattle.jdwp_live.specs.declared.pipes.pipe.Patience.TheVariants.{Step}
 use Rattle.jdwp_live.specs.LiveStory.{FailsWrite, LiveStory, with_read, with_written}

@@ -1,14 +1,13 @@
 -- What rounds of a target keep, what moved between it and a pipe, and how it stands.
 use Rattle.std.specs.Prelude.{◌≡◌, ℕ, true, false, [], None, Ok}
 use Rattle.jdwp_end.specs.Ends.{front_of, is_open}
-use Rattle.jdwp_end.specs.Runs.{IsFront}
 use Rattle.jdwp_end.specs.Story.{Story}
 use Rattle.jdwp_engine.specs.Rounds.{StepsEach}
 use Rattle.jdwp_machine.specs.Meanings.{Meaning}
 use Rattle.jdwp_partner.specs.declared.standing.Standing.{Standing}
 use Rattle.jdwp_partner.specs.declared.standing.Standing.TheVariants.{Goes, Still, AllUsed, Refused, NoMemory}
 use Rattle.jdwp_target.specs.Targets.{Target}
-use Rattle.jdwp_wire.specs.Streams.{More}
+use Rattle.jdwp_wire.specs.Streams.{More, IsFront}
 
 -- it has what it was made with, and is in the same session
 pub record IsOfSession {S : Type 0} (old new : Target S) : Type 0 where

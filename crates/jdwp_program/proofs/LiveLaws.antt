@@ -1,10 +1,16 @@
 -- What is told of a capture while it is written.
-use Rattle.std.proofs.Common.{◌≡◌, ◌∙◌, ℕ, List, [], ◌++◌, length, take, Option, Result, Ok, Err, sym, ap, subst, append_assoc, append-nil, arith}
+use Rattle.std.proofs.Common.{◌≡◌, ◌∙◌, ℕ, List, [], ◌++◌, length, take, false, refl, Option, Some, None, Result, Ok, Err, sym, ap, subst, append_assoc, append-nil, arith}
 use Rattle.std.proofs.lemmas.List.{take_all}
+use Rattle.std.specs.Prelude.{is_some}
 use Rattle.std.specs.Io.KnownBytes.{Appends}
+use Rattle.jdwp_wire.specs.Streams.{IsFront}
+use Rattle.jdwp_judge.specs.CaptureJudges.{fault_so_far, finished_after}
 use Rattle.jdwp_show.specs.declared.table.Table.{Table}
+use Rattle.jdwp_show.specs.declared.table.Table.TheVariants.{Standard, Jdi}
+use Rattle.jdwp_show.specs.Items.{items_after}
+use Rattle.jdwp_show.specs.Sessions.{first_after, unanswered}
 use Rattle.jdwp_program.specs.Captures.{shown_text_under}
-use Rattle.jdwp_program.specs.Live.{IsFront, IsShowing}
+use Rattle.jdwp_program.specs.Live.{IsShowing}
 use Rattle.jdwp_program.specs.Printing.{AppendsPart, AppendsSome}
 use Rattle.jdwp_program.specs.Streaming.{ShowsRead}
 use Rattle.jdwp_program.specs.declared.captures.Told.{Told}
@@ -25,6 +31,16 @@ front_on front text bytes is = (is.0 ++ bytes, ap (λ (l : List ℕ). l ++ bytes
 pub ended_on : (table : Table) (result : Result Told StreamFault) (text bytes : List ℕ) (start now : Option (List ℕ)) → IsShowing table (Ended result) text start now → IsShowing table (Ended result) (text ++ bytes) start now
 ended_on table result text bytes start now (front, (is, shows), told) = (front, (front_on front text bytes is, shows), told)
 
+-- of no text no fault is known
+pub no_fault : (table : Table) → fault_so_far table [] ≡ None
+unfolding finished_after items_after first_after unanswered
+no_fault Standard = refl
+no_fault Jdi = refl
+
+pub not_some : {T : Type 0} (o : Option T) → is_some o ≡ false → o ≡ None
+not_some None is = refl
+not_some (Some x) is = absurd cc
+
 -- ---- what was printed is a beginning of a capture in words
 
 pub part_some : (old new : Option (List ℕ)) (text : List ℕ) → AppendsPart old new text → AppendsSome old new text
@@ -42,5 +58,5 @@ read_some table capture start now (Err (Output error)) s = part_some start now (
 read_some table capture start now (Err NoMemory) s = s
 
 pub showing_some : (table : Table) (show : LiveShow) (text : List ℕ) (start now : Option (List ℕ)) → IsShowing table show text start now → (capture : List ℕ) × AppendsSome start now (shown_text_under table capture)
-showing_some table (Going judge) text start now (heard, told) = (text, starves table text start now told)
+showing_some table (Going judge) text start now (heard, told, none) = (text, starves table text start now told)
 showing_some table (Ended result) text start now (front, (is, shows), told) = (front, read_some table front start now result shows)

@@ -1,6 +1,7 @@
 -- Both directions between a debugger and a target, and the capture of what came.
 use Rattle.std.specs.Prelude.{◌≡◌, ◌⊎◌, ◌<◌, ℕ, List, [], ◌++◌, length, All, Bool, true, false, ◌||◌, ◌&&◌, Option, Result, Ok, Err}
 use Rattle.std.specs.Io.KnownBytes.{Appends}
+use Rattle.jdwp_wire.specs.Streams.{IsFront}
 use Rattle.jdwp_relay.specs.declared.duct.Stage.{Stage}
 use Rattle.jdwp_relay.specs.declared.duct.Stage.TheVariants as stage
 use Rattle.jdwp_relay.specs.declared.relay.Halves.{Halves}
@@ -127,10 +128,6 @@ pub record IsRecorded (start : Option (List ℕ)) (x : Crossing) : Type 0 where
   pub debugger : sent_by Debugger lines ≡ x.from_debugger.bytes
   pub target : sent_by Target lines ≡ x.from_target.bytes
   pub some : All (λ line. 0 < length line.bytes) lines
-
--- front, and then some rest, is the whole
-abbrev pub IsFront : List ℕ → List ℕ → Type 0
-IsFront front whole = (rest : List ℕ) × (whole ≡ front ++ rest)
 
 -- Behind what stood there at the beginning the capture is lines, and then perhaps a part of one; and what went to each end is a beginning of
 -- what the whole lines hold.

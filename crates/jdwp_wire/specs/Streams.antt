@@ -1,5 +1,5 @@
 -- Messages, and the byte streams that they make (JDWP specification, "JDWP overview" and "Packets": the handshake, then packets).
-use Rattle.std.specs.Prelude.{ℕ, Bool, true, false, List, [], ◌∷◌, length, nat_le, if◌then◌else◌}
+use Rattle.std.specs.Prelude.{◌≡◌, ℕ, Bool, true, false, List, [], ◌∷◌, ◌++◌, length, nat_le, if◌then◌else◌}
 use Rattle.std.specs.List.{flat_map, AllByRecursion}
 use Rattle.jdwp_wire.specs.declared.frame.FrameFault.{FrameFault}
 use Rattle.jdwp_wire.specs.declared.frame.NextHello.{NextHello}
@@ -8,6 +8,10 @@ use Rattle.jdwp_wire.specs.declared.packet.Header.{Header}
 use Rattle.jdwp_wire.specs.Frames.{packet_bytes, IsPacket, Front, front}
 use Rattle.jdwp_wire.specs.Frames as frames
 use Rattle.jdwp_wire.specs.Handshake.{handshake_bytes, handshake_front}
+
+-- front, and then some rest, is the whole
+abbrev pub IsFront : List ℕ → List ℕ → Type 0
+IsFront front whole = (rest : List ℕ) × (whole ≡ front ++ rest)
 
 -- what an end sends
 pub data Message : Type 0 where
