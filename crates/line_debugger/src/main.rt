@@ -35,15 +35,33 @@ fn debug<P: Pipe + Drop>(
     client: Client<P>,
 ) -> anyhow::Result<()> {
     let mut debugger = LineDebugger::begin(rt.alloc(), client)?;
+    debug_by(rt, &mut debugger)
+}
+
+/// The same by this debugger.
+fn debug_by<P: Pipe + Drop>(
+    rt: &(impl Print + Input + AllocGlobal),
+    debugger: &mut LineDebugger<P>,
+) -> anyhow::Result<()> {
     for line in rt.lines(rt.alloc()) {
         let line = line?;
-        match debugger.answer(line.as_str().trim()) {
-            Ok(text) => print!(rt; "{text}")?,
-            Err(fault) => println!(rt; "{fault}")?,
-        }
+        answer(rt, debugger, line.as_str().trim())?;
         if !debugger.client.is_open() {
             break;
         }
+    }
+    Ok(())
+}
+
+/// Answers one command line, in words.
+fn answer<P: Pipe + Drop>(
+    rt: &impl Print,
+    debugger: &mut LineDebugger<P>,
+    line: &str,
+) -> anyhow::Result<()> {
+    match debugger.answer(line) {
+        Ok(text) => print!(rt; "{text}")?,
+        Err(fault) => println!(rt; "{fault}")?,
     }
     Ok(())
 }
