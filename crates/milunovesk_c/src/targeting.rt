@@ -4,7 +4,9 @@ ghost use Rattle.jdwp_debuggee.specs.State as spec;
 ghost use Rattle.jdwp_end.specs.Ends.{is_open, room_of};
 ghost use Rattle.jdwp_machine.specs.Meanings.{numbers};
 ghost use Rattle.jdwp_script_machine.specs.ScriptMeaning.{script_meaning};
-ghost use Rattle.jdwp_target.specs.Targets.{lost_target, with_fed, with_taken};
+ghost use Rattle.jdwp_target.specs.Options.{LivesWithin, settings_at};
+ghost use Rattle.jdwp_target.specs.Targets.{lost_target, new_target, with_fed, with_taken};
+ghost use Rattle.jdwp_wire.specs.Limits.{standard_limits};
 ghost use Rattle.milunovesk_c.specs.KeptIn.{AtTarget, KeepsNoTarget, KeepsTarget};
 ghost use Rattle.milunovesk_c.specs.Numbers.{DONE};
 ghost use Rattle.milunovesk_c.specs.Targets.{HasHandled, HasStepped, IsTargetMade, IsUnmade, MakesTarget, opened_where, step_number};
@@ -19,6 +21,7 @@ use jdwp_script::ScriptFault;
 use jdwp_script_machine::ScriptMachine;
 use jdwp_target::{Stepped, Target, TargetFault, TargetOptions};
 use jdwp_value::ObjectId;
+use jdwp_wire::NoMemory;
 use std::alloc::Global;
 
 /// Keeps a target over the machine of a script at a handle that keeps nothing. `LIVE` where something is kept; `NOT_UTF8` where the bytes are no
@@ -87,13 +90,23 @@ fn made(alloc: Global, json: &[u8], start_all: bool, count_limit: u32) -> Result
         Err(ScriptFault::NoMemory) => return Err(Unmade::NoMemory),
         Err(fault) => return Err(Unmade::Script(fault)),
     };
-    let Ok(target) = Target::new(alloc, machine, options) else {
-        return Err(Unmade::NoMemory);
-    };
-    match Box::new(alloc, Kept::Target(target)) {
+    match boxed(alloc, machine, options) {
         Ok(kept) => Ok(kept),
         Err(_) => Err(Unmade::NoMemory),
     }
+}
+
+fn boxed(
+    alloc: Global,
+    machine: ScriptMachine,
+    options: TargetOptions,
+) -> Result<Box<Kept>, NoMemory>
+    requires { LivesWithin script_meaning standard_limits machine }
+    ensures { IfOk result (λ b. b.value ≡ kept.Target (new_target (settings_at standard_limits options)
+        (record { state = spec.new_state (script_meaning.live machine); machine = machine }))) }
+{
+    let target = Target::new(alloc, machine, options)?;
+    Ok(Box::new(alloc, Kept::Target(target))?)
 }
 
 /// Begins a session; `opened` says whether it did: not where one is open, or the machine is dead.
