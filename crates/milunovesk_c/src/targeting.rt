@@ -96,6 +96,8 @@ fn made(alloc: Global, json: &[u8], start_all: bool, count_limit: u32) -> Result
     }
 }
 
+/// A target over this machine, on the heap. It is a function of its own: where `made` owns a target, each part of it is proved to be let go at
+/// each of its ends.
 fn boxed(
     alloc: Global,
     machine: ScriptMachine,
