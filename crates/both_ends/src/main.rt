@@ -19,37 +19,56 @@ use milunovesk::client::Options;
 use milunovesk::{Order, connect};
 use repeated::{ByClient, ByHand, Classes, measure};
 use std::env;
+use std::net::Net;
+use std::rt::Clock;
 
 fn main(rt: HostRuntime) -> anyhow::Result<()> {
     let words = env::args(&rt)?.collect::<Vec<String>>(rt.alloc())?;
-    let options = Options::new(Order::Apart);
     match words.as_slice() {
-        [_, way, address] if way.as_str() == "client" => {
-            let client = connect(rt.alloc(), &rt, &rt, address.as_str(), options)?;
-            return measure(&rt, ByClient::begin(rt.alloc(), client)?);
-        }
-        [_, way, address] if way.as_str() == "hand" => {
-            let client = connect(rt.alloc(), &rt, &rt, address.as_str(), options)?;
-            return measure(&rt, ByHand::begin(rt.alloc(), client.into_pipe())?);
-        }
-        [_, way] if way.as_str() == "typed" => {
-            return measure(&rt, Classes::new(rt.alloc(), true)?);
-        }
-        [_, way] if way.as_str() == "untyped" => {
-            return measure(&rt, Classes::new(rt.alloc(), false)?);
-        }
-        _ => {}
+        [_, way, given] => run(&rt, way.as_str(), given.as_str()),
+        [_, way] => run(&rt, way.as_str(), ""),
+        _ => run(&rt, "1", ""),
     }
-    let answered = match words.as_slice() {
-        [_, rounds] => answered(rt.alloc(), Given::Items, rounds.parse::<u32>()?)?,
-        [_, way, rounds] if way.as_str() == "bytes" => {
-            answered(rt.alloc(), Given::Bytes, rounds.parse::<u32>()?)?
-        }
-        [_, way, rounds] if way.as_str() == "link" => {
-            answered_by_link(rt.alloc(), rounds.parse::<u32>()?)?
-        }
-        _ => answered(rt.alloc(), Given::Items, 1)?,
-    };
-    println!(&rt; "{answered} answered")?;
+}
+
+/// Does what a word says, with the number or the address behind it.
+fn run(
+    rt: &(impl Print + Input + AllocGlobal + Clock + Net),
+    way: &str,
+    given: &str,
+) -> anyhow::Result<()> {
+    let alloc = rt.alloc();
+    match way {
+        "client" => ask_by_client(rt, given),
+        "hand" => ask_by_hand(rt, given),
+        "typed" => measure(rt, Classes::new(alloc, true)?),
+        "untyped" => measure(rt, Classes::new(alloc, false)?),
+        "bytes" => tell(rt, answered(alloc, Given::Bytes, given.parse::<u32>()?)?),
+        "link" => tell(rt, answered_by_link(alloc, given.parse::<u32>()?)?),
+        rounds => tell(rt, answered(alloc, Given::Items, rounds.parse::<u32>()?)?),
+    }
+}
+
+/// Says how many answers came.
+fn tell(rt: &impl Print, answered: u64) -> anyhow::Result<()> {
+    println!(rt; "{answered} answered")?;
     Ok(())
+}
+
+/// Asks a target at an address by a client.
+fn ask_by_client(
+    rt: &(impl Print + Input + AllocGlobal + Clock + Net),
+    address: &str,
+) -> anyhow::Result<()> {
+    let client = connect(rt.alloc(), rt, rt, address, Options::new(Order::Apart))?;
+    measure(rt, ByClient::begin(rt.alloc(), client)?)
+}
+
+/// Asks a target at an address by a debugger whose bytes are moved by hand.
+fn ask_by_hand(
+    rt: &(impl Print + Input + AllocGlobal + Clock + Net),
+    address: &str,
+) -> anyhow::Result<()> {
+    let client = connect(rt.alloc(), rt, rt, address, Options::new(Order::Apart))?;
+    measure(rt, ByHand::begin(rt.alloc(), client.into_pipe())?)
 }

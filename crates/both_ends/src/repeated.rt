@@ -32,14 +32,28 @@ pub fn measure<W: Work + Drop>(
     rt: &(impl Print + Input + AllocGlobal + Clock),
     mut work: W,
 ) -> anyhow::Result<()> {
+    measure_all(rt, &mut work)
+}
+
+/// The same of work that is lent.
+fn measure_all<W: Work>(
+    rt: &(impl Print + Input + AllocGlobal + Clock),
+    work: &mut W,
+) -> anyhow::Result<()> {
     for line in rt.lines(rt.alloc()) {
         let times = line?.parse::<u32>()?;
         let start = Instant::now(rt)?;
-        for _ in 0..times {
-            work.once()?;
-        }
+        repeat(work, times)?;
         let nanoseconds = start.elapsed(rt)?.as_nanos();
         println!(rt; "{nanoseconds}")?;
+    }
+    Ok(())
+}
+
+/// Does work so many times.
+fn repeat<W: Work>(work: &mut W, times: u32) -> anyhow::Result<()> {
+    for _ in 0..times {
+        work.once()?;
     }
     Ok(())
 }
@@ -48,12 +62,13 @@ pub fn measure<W: Work + Drop>(
 #[derive(Drop)]
 pub struct ByClient<P: Pipe> {
     alloc: Global,
-    client: Client<P>,
+    client: Box<Client<P>>,
 }
 
 impl<P: Pipe + Drop> ByClient<P> {
     /// By a client whose session begins.
-    pub fn begin(alloc: Global, mut client: Client<P>) -> anyhow::Result<ByClient<P>> {
+    pub fn begin(alloc: Global, client: Client<P>) -> anyhow::Result<ByClient<P>> {
+        let mut client = Box::new(alloc, client)?;
         client.attach()?;
         Ok(ByClient { alloc, client })
     }
@@ -151,17 +166,7 @@ impl Classes {
     /// The reply, with ids of eight bytes.
     pub fn new(alloc: Global, is_typed: bool) -> anyhow::Result<Classes> {
         let sizes = IdSizes::new(8, 8, 8, 8, 8)?;
-        let mut entries = Vec::new(alloc);
-        for id in 1..=CLASSES {
-            entries.push(vec![in alloc;
-                Scalar::Byte(1),
-                Scalar::ReferenceTypeId(ReferenceTypeId(id)),
-                Scalar::String(format!(in alloc; "Lorg/example/part/Class{id};")?),
-                Scalar::String(String::new(alloc)),
-                Scalar::Int(7),
-            ]?)?;
-        }
-        let items = vec![in alloc; Datum::Many(entries)]?;
+        let items = vec![in alloc; Datum::Many(entries(alloc)?)]?;
         let mut bytes = Vec::new(alloc);
         write(Vec::<GenericClass>::layout(), &sizes, &items, &mut bytes)?;
         Ok(Classes {
@@ -171,6 +176,26 @@ impl Classes {
             is_typed,
         })
     }
+}
+
+/// What the reply says of each class.
+fn entries(alloc: Global) -> anyhow::Result<Vec<Vec<Scalar>>> {
+    let mut entries = Vec::new(alloc);
+    for id in 1..=CLASSES {
+        entries.push(entry(alloc, id)?)?;
+    }
+    Ok(entries)
+}
+
+/// What it says of the class of this id.
+fn entry(alloc: Global, id: u64) -> anyhow::Result<Vec<Scalar>> {
+    Ok(vec![in alloc;
+        Scalar::Byte(1),
+        Scalar::ReferenceTypeId(ReferenceTypeId(id)),
+        Scalar::String(format!(in alloc; "Lorg/example/part/Class{id};")?),
+        Scalar::String(String::new(alloc)),
+        Scalar::Int(7),
+    ]?)
 }
 
 impl Work for Classes {

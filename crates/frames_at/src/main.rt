@@ -16,7 +16,8 @@ fn main(rt: HostRuntime) -> Result<()> {
         bail!("frames_at HOST:PORT CLASS");
     };
     let options = Options::new(Order::Apart);
-    let mut client = connect(alloc, &rt, &rt, address.as_str(), options)?;
+    let client = connect(alloc, &rt, &rt, address.as_str(), options)?;
+    let mut client = Box::new(alloc, client)?;
     client.attach()?;
     let modifiers = vec![in alloc; Modifier::ClassMatch(class.clone()?)]?;
     let entry = event_request::set(alloc, EventKind::MethodEntry, Policy::All, modifiers)?;

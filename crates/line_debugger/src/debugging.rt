@@ -17,7 +17,7 @@ const NO_PLACE: &str = "a place is a class and a line, as in: stop at Main:7";
 #[derive(Drop)]
 pub struct LineDebugger<P: Pipe> {
     pub(crate) alloc: Global,
-    pub(crate) client: Client<P>,
+    pub(crate) client: Box<Client<P>>,
     stopped: Option<ObjectId>,
 }
 
@@ -26,7 +26,7 @@ impl<P: Pipe + Drop> LineDebugger<P> {
     ///
     /// # Errors
     /// Those of `Client::attach`.
-    pub fn begin(alloc: Global, mut client: Client<P>) -> Result<LineDebugger<P>> {
+    pub fn begin(alloc: Global, mut client: Box<Client<P>>) -> Result<LineDebugger<P>> {
         client.attach()?;
         Ok(LineDebugger {
             alloc,
@@ -66,24 +66,32 @@ impl<P: Pipe + Drop> LineDebugger<P> {
 
     /// Sets a breakpoint at each place of `stop at CLASS:LINE`. Where there is no such class yet, the program runs until it is prepared.
     fn stop_at(&mut self, line: &str) -> Result<String> {
-        let place = line.strip_prefix("stop at ").context(
-            "stop at CLASS:LINE, cont, step, next, where, locals, threads, quit",
-        )?;
-        let (class, line) = place.split_once(':').context(NO_PLACE)?;
-        let line = line.parse::<i32>().context(NO_PLACE)?;
-        if !self.classes(class)?.iter().any(is_prepared) {
-            let pattern = String::from_str(self.alloc, class)?;
-            self.request(EventKind::ClassPrepare, Modifier::ClassMatch(pattern))?;
-            self.go()?;
-        }
-        let mut is_set = false;
-        for entry in &self.classes(class)? {
-            is_set |= self.set_in(entry.id, line)?;
-        }
-        if !is_set {
+        let (class, line) = place_of(line)?;
+        self.go_until_prepared(class)?;
+        if !self.set_at(class, line)? {
             bail!("no class of this name has code of line {line}");
         }
         Ok(format!(in self.alloc; "  set at {class}:{line}\n")?)
+    }
+
+    /// Lets the program run until a class of this name is prepared, where none is.
+    fn go_until_prepared(&mut self, class: &str) -> Result<()> {
+        if self.classes(class)?.iter().any(is_prepared) {
+            return Ok(());
+        }
+        let pattern = String::from_str(self.alloc, class)?;
+        self.request(EventKind::ClassPrepare, Modifier::ClassMatch(pattern))?;
+        self.go()
+    }
+
+    /// Sets a breakpoint at a line in each class of this name, and says whether any has code of it.
+    fn set_at(&mut self, class: &str, line: i32) -> Result<bool> {
+        let classes = self.classes(class)?;
+        let mut is_set = false;
+        for entry in &classes {
+            is_set |= self.set_in(entry.id, line)?;
+        }
+        Ok(is_set)
     }
 
     /// The classes of this name, as `Lapp/Main;` is the signature of `app.Main`.
@@ -96,22 +104,33 @@ impl<P: Pipe + Drop> LineDebugger<P> {
 
     /// Sets a breakpoint in each method of a class that has code of this line, and says whether any has.
     fn set_in(&mut self, class: ReferenceTypeId, line: i32) -> Result<bool> {
+        let methods = self.methods(class)?;
         let mut is_set = false;
-        for entry in &self.methods(class)? {
-            let method = entry.id;
-            let table = self.lines(class, method)?;
-            if let Some(index) = table.and_then(|table| table.code_index_of(line)) {
-                let place = Location::At {
-                    tag: TypeTag::Class,
-                    class,
-                    method,
-                    index,
-                };
-                self.request(EventKind::Breakpoint, Modifier::LocationOnly(place))?;
-                is_set = true;
-            }
+        for entry in &methods {
+            is_set |= self.set_in_method(class, entry.id, line)?;
         }
         Ok(is_set)
+    }
+
+    /// Sets a breakpoint in a method that has code of this line, and says whether it has.
+    fn set_in_method(
+        &mut self,
+        class: ReferenceTypeId,
+        method: MethodId,
+        line: i32,
+    ) -> Result<bool> {
+        let table = self.lines(class, method)?;
+        let Some(index) = table.and_then(|table| table.code_index_of(line)) else {
+            return Ok(false);
+        };
+        let place = Location::At {
+            tag: TypeTag::Class,
+            class,
+            method,
+            index,
+        };
+        self.request(EventKind::Breakpoint, Modifier::LocationOnly(place))?;
+        Ok(true)
     }
 
     /// The methods of a class.
@@ -181,6 +200,15 @@ impl<P: Pipe + Drop> LineDebugger<P> {
         self.client.ask(clear)?;
         Ok(())
     }
+}
+
+/// The class and the line of `stop at CLASS:LINE`.
+fn place_of(line: &str) -> Result<(&str, i32)> {
+    let place = line.strip_prefix("stop at ").context(
+        "stop at CLASS:LINE, cont, step, next, where, locals, threads, quit",
+    )?;
+    let (class, line) = place.split_once(':').context(NO_PLACE)?;
+    Ok((class, line.parse::<i32>().context(NO_PLACE)?))
 }
 
 /// Whether a class is prepared: its status has the bit 2.

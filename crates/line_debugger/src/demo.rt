@@ -67,7 +67,7 @@ fn advance<M: Machine + Drop>(target: &mut Target<M>) -> io::Result<()> {
 ///
 /// # Errors
 /// A fault of the script; want of memory.
-pub fn demo(alloc: Global, script: &str) -> anyhow::Result<Client<Both<ScriptMachine>>> {
+pub fn demo(alloc: Global, script: &str) -> anyhow::Result<Box<Client<Both<ScriptMachine>>>> {
     let options = TargetOptions::new(true, 65_535).context("a limit that there may be")?;
     let machine = ScriptMachine::read(alloc, script)?;
     demo_over(alloc, machine, options)
@@ -78,7 +78,7 @@ fn demo_over<M: Machine + Drop>(
     alloc: Global,
     machine: M,
     options: TargetOptions,
-) -> anyhow::Result<Client<Both<M>>>
+) -> anyhow::Result<Box<Client<Both<M>>>>
     requires { LivesWithin M.meaning standard_limits machine }
 {
     let mut target = Target::new(alloc, machine, options)?;
@@ -86,5 +86,6 @@ fn demo_over<M: Machine + Drop>(
     let reader = Rc::new(alloc, RefCell::new(target))?;
     let writer = reader.clone()?;
     let pipe = Streams::new(Half(reader), Half(writer));
-    Ok(Client::new(alloc, pipe, Options::new(Order::Apart))?)
+    let client = Client::new(alloc, pipe, Options::new(Order::Apart))?;
+    Ok(Box::new(alloc, client)?)
 }

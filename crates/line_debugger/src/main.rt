@@ -23,7 +23,7 @@ fn main(rt: HostRuntime) -> anyhow::Result<()> {
         [_, address] => {
             let options = Options::new(Order::Apart);
             let client = connect(rt.alloc(), &rt, &rt, address.as_str(), options)?;
-            debug(&rt, client)
+            debug(&rt, Box::new(rt.alloc(), client)?)
         }
         _ => bail!("line_debugger HOST:PORT | line_debugger --script FILE"),
     }
@@ -32,7 +32,7 @@ fn main(rt: HostRuntime) -> anyhow::Result<()> {
 /// Debugs by command lines, until one leaves, there are no more, or the session is over.
 fn debug<P: Pipe + Drop>(
     rt: &(impl Print + Input + AllocGlobal),
-    client: Client<P>,
+    client: Box<Client<P>>,
 ) -> anyhow::Result<()> {
     let mut debugger = LineDebugger::begin(rt.alloc(), client)?;
     debug_by(rt, &mut debugger)
