@@ -1,227 +1,356 @@
-//! Arguments of the command line.
-use clap::{Arg, ArgAction, value_parser};
-use jdwp_wire::number::GREATEST_INT;
+//! Arguments of the command line: how each is named and told of, and what it takes.
+use clap::builder::ValueParser;
+use clap::{Arg, ArgAction};
 use std::alloc::{AllocError, Global};
 
-/// The port at which a recorder awaits debuggers.
-pub(crate) fn listen<'a>(alloc: Global) -> Arg<'a> {
-    let help =
-        "The port of 127.0.0.1 at which debuggers connect; 0 is a port that the system chooses";
-    option(alloc, "listen", "N", help)
-        .value_parser(value_parser!(u32).range(0..=65535))
-        .required(true)
+/// An argument.
+#[derive(Clone, Copy)]
+pub(crate) enum Argument {
+    Place(Place),
+    Valued(Valued),
+    Flag(Flag),
 }
 
-/// The port at which the target of a recorder listens.
-pub(crate) fn target<'a>(alloc: Global) -> Arg<'a> {
-    let help = "The port of 127.0.0.1 at which the target listens";
-    option(alloc, "port", "N", help)
-        .value_parser(value_parser!(u32).range(1..=65535))
-        .required(true)
-}
-
-/// The file that a recorder writes.
-pub(crate) fn recorded_to<'a>(alloc: Global) -> Arg<'a> {
-    let help =
-        "Where the capture of the first session is written; those of the next ones are in FILE.2, FILE.3 and so on";
-    option(alloc, "to", "FILE", help).required(true)
-}
-
-/// That sessions are shown that were recorded.
-pub(crate) fn show<'a>(alloc: Global) -> Arg<'a> {
-    let help = "Shows each session in words while it goes on";
-    flag(alloc, "show", help)
-}
-
-/// That one session is recorded.
-pub(crate) fn once<'a>(alloc: Global) -> Arg<'a> {
-    let help = "Ends behind the first session that was recorded";
-    flag(alloc, "once", help)
-}
-
-/// The file of a capture.
-pub(crate) fn capture<'a>(alloc: Global, help: &'a str) -> Arg<'a> {
-    file(alloc, "file", "FILE", help)
-}
-
-/// The target's port in a recording.
-pub(crate) fn target_port<'a>(alloc: Global) -> Arg<'a> {
-    let help =
-        "The target's port in a recording; without it the handshake or the beginning of the connection tells which side is the target";
-    option(alloc, "target-port", "N", help).value_parser(value_parser!(u32).range(1..=65535))
-}
-
-/// Which connection of a recording it is.
-pub(crate) fn stream<'a>(alloc: Global) -> Arg<'a> {
-    option(
-        alloc,
-        "stream",
-        "N",
-        "Which connection of a recording, from 1",
-    )
-    .value_parser(value_parser!(u32).range(1..=i64::from(GREATEST_INT)))
-    .default_value("1")
-}
-
-/// The number of the first message that is drawn.
-pub(crate) fn first_message<'a>(alloc: Global) -> Arg<'a> {
-    let help = "The number of the first message that is drawn, from 1";
-    option(alloc, "from", "N", help)
-        .value_parser(value_parser!(u32).range(1..=i64::from(GREATEST_INT)))
-        .default_value("1")
-}
-
-/// How many messages are drawn at most.
-pub(crate) fn message_count<'a>(alloc: Global) -> Arg<'a> {
-    option(alloc, "count", "N", "How many messages are drawn at most")
-        .value_parser(value_parser!(u32))
-        .default_value("200")
-}
-
-/// The file that the expectations of a plan in words are told in.
-pub(crate) fn junit<'a>(alloc: Global) -> Arg<'a> {
-    let help =
-        "Where the expectations of a plan in words are written as test cases, in JUnit's XML";
-    option(alloc, "junit", "FILE", help)
-}
-
-/// The file of a script.
-pub(crate) fn machine<'a>(alloc: Global) -> Arg<'a> {
-    let help = "The script of the machine to be debugged, in JSON";
-    file(alloc, "machine", "MACHINE", help)
-}
-
-/// The file of a plan.
-pub(crate) fn plan<'a>(alloc: Global, help: &'a str) -> Arg<'a> {
-    file(alloc, "plan", "PLAN", help)
-}
-
-/// The file that a session's bytes are read from. With that of `to` it stands where no port does.
-pub(crate) fn from<'a>(alloc: Global, help: &'a str) -> Arg<'a> {
-    option(alloc, "from", "FILE", help)
-}
-
-/// The file that a session's bytes are written to.
-pub(crate) fn to<'a>(alloc: Global, help: &'a str) -> Arg<'a> {
-    option(alloc, "to", "FILE", help)
-}
-
-/// The port that a session is at, in place of files, from this one on.
-pub(crate) fn port<'a>(alloc: Global, help: &'a str, least: i64) -> Result<Arg<'a>, AllocError> {
-    option(alloc, "port", "N", help)
-        .value_parser(value_parser!(u32).range(least..=65535))
-        .conflicts_with_all(&["from", "to"])
-}
-
-/// That sessions are live.
-pub(crate) fn live<'a>(alloc: Global) -> Result<Arg<'a>, AllocError> {
-    let help =
-        "Threads step only while nothing comes, and the next debugger is awaited for ever; --port 0 is a port that the system chooses";
-    let option: Arg<'a> = flag(alloc, "live", help);
-    let option: Arg<'a> = option.requires_arg("port")?;
-    option.conflicts_with_all(&["from", "to", "turns"])
-}
-
-/// How far the steps of live sessions are apart.
-pub(crate) fn pace<'a>(alloc: Global) -> Result<Arg<'a>, AllocError> {
-    let help =
-        "How many milliseconds pass at least between two steps of live sessions, 0 if it is not given";
-    let option: Arg<'a> = option(alloc, "pace", "MS", help).value_parser(value_parser!(u32));
-    let option: Arg<'a> = option.requires_arg("live")?;
-    option.conflicts_with_all(&["from", "to", "turns"])
-}
-
-/// That nothing but memory is between both ends of a session.
-pub(crate) fn memory<'a>(alloc: Global) -> Arg<'a> {
-    let help =
-        "Bytes go from one end to the other in memory, and no connection is made, as a plan in words always has it";
-    flag(alloc, "memory", help)
-}
-
-/// That the target defers replies.
-pub(crate) fn defer<'a>(alloc: Global) -> Arg<'a> {
-    let help =
-        "Puts commands of the sets ReferenceType and Method off until a round handles nothing, the newest first";
-    flag(alloc, "defer", help)
-}
-
-/// Which threads begin suspended.
-pub(crate) fn start<'a>(alloc: Global) -> Arg<'a> {
-    option(alloc, "start", "WHICH", "Which threads VM_START suspends")
-        .value_parser(["all", "none"].as_slice())
-        .default_value("all")
-}
-
-/// The greatest suspend count that a Suspend gives.
-pub(crate) fn count_limit<'a>(alloc: Global) -> Arg<'a> {
-    let help = "The greatest suspend count that a Suspend gives";
-    option(alloc, "count-limit", "N", help)
-        .value_parser(value_parser!(u32).range(1..=i64::from(GREATEST_INT)))
-        .default_value("65535")
-}
-
-/// The profile of a target.
-pub(crate) fn profile_option<'a>(alloc: Global, help: &'a str) -> Arg<'a> {
-    option(alloc, "profile", "PROFILE", help)
-        .value_parser(["standard", "jdi"].as_slice())
-        .default_value("standard")
-}
-
-/// In which order the target sends.
-pub(crate) fn order_option<'a>(alloc: Global) -> Arg<'a> {
-    let help =
-        "Whether the target sends replies and events as it acts, or by threads of their own, as Java machines do";
-    option(alloc, "order", "ORDER", help)
-        .value_parser(["one", "apart"].as_slice())
-        .default_value("one")
-}
-
-/// The limits of a session.
-pub(crate) fn limits_option<'a>(alloc: Global) -> Arg<'a> {
-    let help = "The most bytes of a packet, live threads, event requests and commands that wait";
-    option(alloc, "limits", "PACKET,LIVE,REQUESTS,PENDING", help)
-}
-
-/// The most turns of a session.
-pub(crate) fn turns<'a>(alloc: Global, help: &'a str) -> Arg<'a> {
-    option(alloc, "turns", "N", help)
-        .value_parser(value_parser!(u32))
-        .default_value("100000")
-}
-
-/// How long a target may be silent.
-pub(crate) fn timeout<'a>(alloc: Global) -> Result<Arg<'a>, AllocError> {
-    let help =
-        "For how many milliseconds nothing may come from the port until the session is lost, for ever if it is not given";
-    let option: Arg<'a> = option(alloc, "timeout", "MS", help).value_parser(value_parser!(
-        u32
-    ).range(1..=i64::from(GREATEST_INT)));
-    let option: Arg<'a> = option.requires_arg("port")?;
-    option.conflicts_with_all(&["from", "to"])
-}
-
-/// A file by its place among the words.
-pub(crate) fn file<'a>(alloc: Global, name: &'a str, shown: &'a str, help: &'a str) -> Arg<'a> {
-    argument(alloc, name, shown, help).required(true)
+/// A word by its place among the words, which has to stand.
+#[derive(Clone, Copy)]
+pub(crate) struct Place {
+    pub(crate) name: &'static str,
+    /// What help shows in its place.
+    pub(crate) shown: &'static str,
+    /// What help tells of it.
+    pub(crate) help: &'static str,
 }
 
 /// An option with a value, which stands at most once.
-pub(crate) fn option<'a>(alloc: Global, name: &'a str, shown: &'a str, help: &'a str) -> Arg<'a> {
-    argument(alloc, name, shown, help).long(name)
+#[derive(Clone, Copy)]
+pub(crate) struct Valued {
+    pub(crate) name: &'static str,
+    /// What help shows in the place of its value.
+    pub(crate) shown: &'static str,
+    /// What help tells of it.
+    pub(crate) help: &'static str,
+    /// What its value has to be.
+    pub(crate) values: ValueParser<'static>,
+    pub(crate) is_required: bool,
+    /// Its value where it does not stand, if it has one then.
+    pub(crate) default: &'static [&'static str],
+    /// The arguments without which it may not stand.
+    pub(crate) needs: &'static [&'static str],
+    /// The arguments beside which it may not stand.
+    pub(crate) excludes: &'static [&'static str],
 }
 
 /// An option without a value, which stands at most once.
-pub(crate) fn flag<'a>(alloc: Global, name: &'a str, help: &'a str) -> Arg<'a> {
-    Arg::new(alloc, name)
-        .long(name)
-        .help(help)
-        .action(ArgAction::SetTrue)
+#[derive(Clone, Copy)]
+pub(crate) struct Flag {
+    pub(crate) name: &'static str,
+    /// What help tells of it.
+    pub(crate) help: &'static str,
+    /// The arguments without which it may not stand.
+    pub(crate) needs: &'static [&'static str],
+    /// The arguments beside which it may not stand.
+    pub(crate) excludes: &'static [&'static str],
 }
 
-/// An argument with one value.
-pub(crate) fn argument<'a>(alloc: Global, name: &'a str, shown: &'a str, help: &'a str) -> Arg<'a> {
-    Arg::new(alloc, name)
-        .value_name(shown)
-        .help(help)
-        .action(ArgAction::Set)
+impl Argument {
+    /// The argument as clap's.
+    pub(crate) fn to_arg<'a>(&self, alloc: Global) -> Result<Arg<'a>, AllocError> {
+        match self {
+            Argument::Place(place) => Ok(place.to_arg(alloc)),
+            Argument::Valued(option) => option.to_arg(alloc),
+            Argument::Flag(flag) => flag.to_arg(alloc),
+        }
+    }
 }
+
+impl Place {
+    fn to_arg<'a>(self, alloc: Global) -> Arg<'a> {
+        Arg::new(alloc, self.name)
+            .value_name(self.shown)
+            .help(self.help)
+            .action(ArgAction::Set)
+            .required(true)
+    }
+}
+
+impl Valued {
+    fn to_arg<'a>(self, alloc: Global) -> Result<Arg<'a>, AllocError> {
+        let arg = Arg::new(alloc, self.name)
+            .value_name(self.shown)
+            .help(self.help)
+            .action(ArgAction::Set)
+            .long(self.name)
+            .value_parser(self.values)
+            .required(self.is_required)
+            .default_values(self.default);
+        arg.requires_all(self.needs)?
+            .conflicts_with_all(self.excludes)
+    }
+}
+
+impl Flag {
+    fn to_arg<'a>(self, alloc: Global) -> Result<Arg<'a>, AllocError> {
+        let arg = Arg::new(alloc, self.name)
+            .long(self.name)
+            .help(self.help)
+            .action(ArgAction::SetTrue);
+        arg.requires_all(self.needs)?
+            .conflicts_with_all(self.excludes)
+    }
+}
+
+/// Any number.
+const NUMBER: ValueParser<'static> = ValueParser::Unsigned(0, 4_294_967_295);
+
+/// A number from 1 to the greatest int.
+const POSITIVE: ValueParser<'static> = ValueParser::Unsigned(1, 2_147_483_647);
+
+/// The number of a port.
+const PORT_NUMBER: ValueParser<'static> = ValueParser::Unsigned(1, 65_535);
+
+/// The number of a port; 0 is one that the system chooses.
+const ANY_PORT: ValueParser<'static> = ValueParser::Unsigned(0, 65_535);
+
+/// What most options have in common.
+const OPTION: Valued = Valued {
+    name: "",
+    shown: "N",
+    help: "",
+    values: NUMBER,
+    is_required: false,
+    default: &[],
+    needs: &[],
+    excludes: &[],
+};
+
+/// What most flags have in common.
+const FLAG: Flag = Flag {
+    name: "",
+    help: "",
+    needs: &[],
+    excludes: &[],
+};
+
+/// The port at which a recorder awaits debuggers.
+pub(crate) const LISTEN: Valued = Valued {
+    name: "listen",
+    help: "The port of 127.0.0.1 at which debuggers connect; 0 is a port that the system chooses",
+    values: ANY_PORT,
+    is_required: true,
+    ..OPTION
+};
+
+/// The port at which the target of a recorder listens.
+pub(crate) const TARGET: Valued = Valued {
+    name: "port",
+    help: "The port of 127.0.0.1 at which the target listens",
+    values: PORT_NUMBER,
+    is_required: true,
+    ..OPTION
+};
+
+/// A file that a session's bytes are written to, or the capture of a session.
+pub(crate) const TO: Valued = Valued {
+    name: "to",
+    shown: "FILE",
+    values: ValueParser::String,
+    ..OPTION
+};
+
+/// The file of a capture.
+pub(crate) const CAPTURE: Place = Place {
+    name: "file",
+    shown: "FILE",
+    help: "A text of lines `> HEX` (from the debugger) and `< HEX` (from the target), or a recording of the network (pcap or pcapng); `-` is standard input",
+};
+
+/// The file of a script.
+pub(crate) const MACHINE: Place = Place {
+    name: "machine",
+    shown: "MACHINE",
+    help: "The script of the machine to be debugged, in JSON",
+};
+
+/// The file of a plan.
+pub(crate) const PLAN: Place = Place {
+    name: "plan",
+    shown: "PLAN",
+    help: "A text of lines `ask SET NUMBER [HEX]`, `answers`, `events N` and `mirror`, or a plan in words, whose first line is `plan 2`",
+};
+
+/// The target's port in a recording.
+pub(crate) const TARGET_PORT: Valued = Valued {
+    name: "target-port",
+    help: "The target's port in a recording; without it the handshake or the beginning of the connection tells which side is the target",
+    values: PORT_NUMBER,
+    ..OPTION
+};
+
+/// Which connection of a recording it is.
+pub(crate) const STREAM: Valued = Valued {
+    name: "stream",
+    help: "Which connection of a recording, from 1",
+    values: POSITIVE,
+    default: &["1"],
+    ..OPTION
+};
+
+/// The number of the first message that is drawn.
+pub(crate) const FIRST_MESSAGE: Valued = Valued {
+    name: "from",
+    help: "The number of the first message that is drawn, from 1",
+    values: POSITIVE,
+    default: &["1"],
+    ..OPTION
+};
+
+/// How many messages are drawn at most.
+pub(crate) const MESSAGE_COUNT: Valued = Valued {
+    name: "count",
+    help: "How many messages are drawn at most",
+    default: &["200"],
+    ..OPTION
+};
+
+/// The file that the expectations of a plan in words are told in.
+pub(crate) const JUNIT: Valued = Valued {
+    name: "junit",
+    shown: "FILE",
+    help: "Where the expectations of a plan in words are written as test cases, in JUnit's XML",
+    values: ValueParser::String,
+    ..OPTION
+};
+
+/// The file that a session's bytes are read from. With that of `to` it stands where no port does.
+pub(crate) const FROM: Valued = Valued {
+    name: "from",
+    shown: "FILE",
+    values: ValueParser::String,
+    ..OPTION
+};
+
+/// The port that a session is at, in place of files.
+pub(crate) const PORT: Valued = Valued {
+    name: "port",
+    values: PORT_NUMBER,
+    excludes: &["from", "to"],
+    ..OPTION
+};
+
+/// The port that sessions of a target are at, in place of files. (That the system chooses it is for live sessions alone.)
+pub(crate) const SERVER_PORT: Valued = Valued {
+    help: "The port of 127.0.0.1 at which debuggers connect",
+    values: ANY_PORT,
+    ..PORT
+};
+
+/// That sessions are live.
+pub(crate) const LIVE: Flag = Flag {
+    name: "live",
+    help: "Threads step only while nothing comes, and the next debugger is awaited for ever; --port 0 is a port that the system chooses",
+    needs: &["port"],
+    excludes: &["from", "to", "turns"],
+};
+
+/// How far the steps of live sessions are apart.
+pub(crate) const PACE: Valued = Valued {
+    name: "pace",
+    shown: "MS",
+    help: "How many milliseconds pass at least between two steps of live sessions, 0 if it is not given",
+    needs: &["live"],
+    excludes: &["from", "to", "turns"],
+    ..OPTION
+};
+
+/// That nothing but memory is between both ends of a session.
+pub(crate) const MEMORY: Flag = Flag {
+    name: "memory",
+    help: "Bytes go from one end to the other in memory, and no connection is made, as a plan in words always has it",
+    ..FLAG
+};
+
+/// That the target defers replies.
+pub(crate) const DEFER: Flag = Flag {
+    name: "defer",
+    help: "Puts commands of the sets ReferenceType and Method off until a round handles nothing, the newest first",
+    ..FLAG
+};
+
+/// That sessions are shown that were recorded.
+pub(crate) const SHOW: Flag = Flag {
+    name: "show",
+    help: "Shows each session in words while it goes on",
+    ..FLAG
+};
+
+/// That one session is recorded.
+pub(crate) const ONCE: Flag = Flag {
+    name: "once",
+    help: "Ends behind the first session that was recorded",
+    ..FLAG
+};
+
+/// Which threads begin suspended.
+pub(crate) const START: Valued = Valued {
+    name: "start",
+    shown: "WHICH",
+    help: "Which threads VM_START suspends",
+    values: ValueParser::Names(&["all", "none"]),
+    default: &["all"],
+    ..OPTION
+};
+
+/// The greatest suspend count that a Suspend gives.
+pub(crate) const COUNT_LIMIT: Valued = Valued {
+    name: "count-limit",
+    help: "The greatest suspend count that a Suspend gives",
+    values: POSITIVE,
+    default: &["65535"],
+    ..OPTION
+};
+
+/// Whether more than the standard commands are read, or answered.
+pub(crate) const PROFILE: Valued = Valued {
+    name: "profile",
+    shown: "PROFILE",
+    values: ValueParser::Names(&["standard", "jdi"]),
+    default: &["standard"],
+    ..OPTION
+};
+
+/// In which order the target sends.
+pub(crate) const ORDER: Valued = Valued {
+    name: "order",
+    shown: "ORDER",
+    help: "Whether the target sends replies and events as it acts, or by threads of their own, as Java machines do",
+    values: ValueParser::Names(&["one", "apart"]),
+    default: &["one"],
+    ..OPTION
+};
+
+/// The limits of a session.
+pub(crate) const LIMITS: Valued = Valued {
+    name: "limits",
+    shown: "PACKET,LIVE,REQUESTS,PENDING",
+    help: "The most bytes of a packet, live threads, event requests and commands that wait",
+    values: ValueParser::String,
+    ..OPTION
+};
+
+/// The most turns of a session.
+pub(crate) const TURNS: Valued = Valued {
+    name: "turns",
+    default: &["100000"],
+    ..OPTION
+};
+
+/// How long a target may be silent.
+pub(crate) const TIMEOUT: Valued = Valued {
+    name: "timeout",
+    shown: "MS",
+    help: "For how many milliseconds nothing may come from the port until the session is lost, for ever if it is not given",
+    values: POSITIVE,
+    needs: &["port"],
+    excludes: &["from", "to"],
+    ..OPTION
+};

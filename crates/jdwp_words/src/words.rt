@@ -5,9 +5,9 @@ ghost use Rattle.jdwp_words.specs.Commands.{RunsPlanOnlyWhere};
 ghost use Rattle.jdwp_program.specs.Words.{KeepsFiles};
 
 use crate::arguments::{
-    capture, count_limit, defer, first_message, from, junit, limits_option, listen, live, machine,
-    memory, message_count, once, order_option, pace, plan, port, profile_option, recorded_to, show,
-    start, stream, target, target_port, timeout, to, turns,
+    Argument, CAPTURE, COUNT_LIMIT, DEFER, FIRST_MESSAGE, FROM, JUNIT, LIMITS, LISTEN, LIVE,
+    MACHINE, MEMORY, MESSAGE_COUNT, ONCE, ORDER, PACE, PLAN, PORT, PROFILE, Place, SERVER_PORT,
+    SHOW, START, STREAM, TARGET, TARGET_PORT, TIMEOUT, TO, TURNS, Valued,
 };
 use crate::refusing::{bad_words, refused};
 use clap::error::ErrorKind;
@@ -25,7 +25,7 @@ use std::alloc::{AllocError, Global};
 use std::convert::AsStr;
 
 /// The greatest suspend count that a Suspend gives, where no option says another.
-const COUNT_LIMIT: u32 = 65_535;
+const STANDARD_COUNT_LIMIT: u32 = 65_535;
 
 /// The name of a command.
 #[derive(Clone, Copy)]
@@ -95,7 +95,7 @@ impl Name {
     }
 
     /// What stands behind it, in the order in which help tells it.
-    fn parts(self) -> &'static [Part] {
+    fn arguments(self) -> &'static [Argument] {
         match self {
             Name::Show | Name::Check => &OF_A_CAPTURE,
             Name::Capture => &OF_A_RECORDING,
@@ -108,118 +108,124 @@ impl Name {
     }
 }
 
-/// What may stand behind the name of a command, with what help tells of it where that is not the same in each.
-#[derive(Clone, Copy)]
-enum Part {
-    Machine,
-    Plan(&'static str),
-    Capture(&'static str),
-    TargetPort,
-    Stream,
-    FirstMessage,
-    MessageCount,
-    From(&'static str),
-    To(&'static str),
-    /// The least port that may be named, too.
-    Port(&'static str, i64),
-    Live,
-    Pace,
-    Memory,
-    Start,
-    CountLimit,
-    /// What help tells of it.
-    Profile(&'static str),
-    Order,
-    Limits,
-    Defer,
-    Turns(&'static str),
-    Timeout,
-    Junit,
-    Listen,
-    Target,
-    RecordedTo,
-    Show,
-    Once,
-}
-
-/// What help tells of the file of a capture.
-const CAPTURE_HELP: &str =
-    "A text of lines `> HEX` (from the debugger) and `< HEX` (from the target), or a recording of the network (pcap or pcapng); `-` is standard input";
-
-static OF_A_CAPTURE: [Part; 4] = [
-    Part::Capture(CAPTURE_HELP),
-    Part::TargetPort,
-    Part::Stream,
-    Part::Profile(
-        "Which data are read: those of the standard commands, or also those of others that a target of this profile answers",
-    ),
+static OF_A_CAPTURE: [Argument; 4] = [
+    Argument::Place(CAPTURE),
+    Argument::Valued(TARGET_PORT),
+    Argument::Valued(STREAM),
+    Argument::Valued(Valued {
+        help: "Which data are read: those of the standard commands, or also those of others that a target of this profile answers",
+        ..PROFILE
+    }),
 ];
 
-static OF_A_RECORDING: [Part; 3] = [
-    Part::Capture("A recording of the network (pcap or pcapng); `-` is standard input"),
-    Part::TargetPort,
-    Part::Stream,
+static OF_A_RECORDING: [Argument; 3] = [
+    Argument::Place(Place {
+        help: "A recording of the network (pcap or pcapng); `-` is standard input",
+        ..CAPTURE
+    }),
+    Argument::Valued(TARGET_PORT),
+    Argument::Valued(STREAM),
 ];
 
-static OF_DRAW: [Part; 5] = [
-    Part::Capture(CAPTURE_HELP),
-    Part::TargetPort,
-    Part::Stream,
-    Part::FirstMessage,
-    Part::MessageCount,
+static OF_DRAW: [Argument; 5] = [
+    Argument::Place(CAPTURE),
+    Argument::Valued(TARGET_PORT),
+    Argument::Valued(STREAM),
+    Argument::Valued(FIRST_MESSAGE),
+    Argument::Valued(MESSAGE_COUNT),
 ];
 
-static OF_SERVE_SCRIPT: [Part; 12] = [
-    Part::Machine,
-    Part::From("What the debugger sent, in bytes"),
-    Part::To("Where the target's bytes are written"),
-    Part::Port("The port of 127.0.0.1 at which debuggers connect", 0),
-    Part::Live,
-    Part::Pace,
-    Part::Start,
-    Part::CountLimit,
-    Part::Profile(
-        "What the target answers: the standard commands, or also what debuggers over the Java Debug Interface ask for, as jdb and IDEs",
-    ),
-    Part::Limits,
-    Part::Defer,
-    Part::Turns("How many rounds a session has at most"),
+static OF_SERVE_SCRIPT: [Argument; 12] = [
+    Argument::Place(MACHINE),
+    Argument::Valued(Valued {
+        help: "What the debugger sent, in bytes",
+        ..FROM
+    }),
+    Argument::Valued(Valued {
+        help: "Where the target's bytes are written",
+        ..TO
+    }),
+    Argument::Valued(SERVER_PORT),
+    Argument::Flag(LIVE),
+    Argument::Valued(PACE),
+    Argument::Valued(START),
+    Argument::Valued(COUNT_LIMIT),
+    Argument::Valued(Valued {
+        help: "What the target answers: the standard commands, or also what debuggers over the Java Debug Interface ask for, as jdb and IDEs",
+        ..PROFILE
+    }),
+    Argument::Valued(LIMITS),
+    Argument::Flag(DEFER),
+    Argument::Valued(Valued {
+        help: "How many rounds a session has at most",
+        ..TURNS
+    }),
 ];
 
-static OF_ATTACH: [Part; 9] = [
-    Part::Plan(
-        "A text of lines `ask SET NUMBER [HEX]`, `answers`, `events N` and `mirror`, or a plan in words, whose first line is `plan 2`",
-    ),
-    Part::From("What the target sent, in bytes"),
-    Part::To("Where the debugger's bytes are written"),
-    Part::Port("The port of 127.0.0.1 at which the target listens", 1),
-    Part::Order,
-    Part::Limits,
-    Part::Turns("How many turns the session of a plan in numbers has at most"),
-    Part::Timeout,
-    Part::Junit,
+static OF_ATTACH: [Argument; 9] = [
+    Argument::Place(PLAN),
+    Argument::Valued(Valued {
+        help: "What the target sent, in bytes",
+        ..FROM
+    }),
+    Argument::Valued(Valued {
+        help: "Where the debugger's bytes are written",
+        ..TO
+    }),
+    Argument::Valued(Valued {
+        help: "The port of 127.0.0.1 at which the target listens",
+        ..PORT
+    }),
+    Argument::Valued(ORDER),
+    Argument::Valued(LIMITS),
+    Argument::Valued(Valued {
+        help: "How many turns the session of a plan in numbers has at most",
+        ..TURNS
+    }),
+    Argument::Valued(TIMEOUT),
+    Argument::Valued(JUNIT),
 ];
 
-static OF_PAIR: [Part; 9] = [
-    Part::Machine,
-    Part::Plan(
-        "As of `attach`, and in numbers lines `lose target`, `lose debugger` and `attach`, too",
-    ),
-    Part::Memory,
-    Part::Order,
-    Part::Start,
-    Part::Limits,
-    Part::Defer,
-    Part::Turns("How many rounds the run has at most"),
-    Part::Junit,
+static OF_PAIR: [Argument; 9] = [
+    Argument::Place(MACHINE),
+    Argument::Place(Place {
+        help: "As of `attach`, and in numbers lines `lose target`, `lose debugger` and `attach`, too",
+        ..PLAN
+    }),
+    Argument::Flag(MEMORY),
+    Argument::Valued(ORDER),
+    Argument::Valued(START),
+    Argument::Valued(LIMITS),
+    Argument::Flag(DEFER),
+    Argument::Valued(Valued {
+        help: "How many rounds the run has at most",
+        ..TURNS
+    }),
+    Argument::Valued(JUNIT),
 ];
 
-static OF_RECORD: [Part; 5] = [
-    Part::Listen,
-    Part::Target,
-    Part::RecordedTo,
-    Part::Show,
-    Part::Once,
+static OF_RECORD: [Argument; 5] = [
+    Argument::Valued(LISTEN),
+    Argument::Valued(TARGET),
+    Argument::Valued(Valued {
+        help: "Where the capture of the first session is written; those of the next ones are in FILE.2, FILE.3 and so on",
+        is_required: true,
+        ..TO
+    }),
+    Argument::Flag(SHOW),
+    Argument::Flag(ONCE),
+];
+
+/// The names of all commands, in the order in which help tells them.
+static NAMES: [Name; 8] = [
+    Name::Show,
+    Name::Check,
+    Name::Capture,
+    Name::Draw,
+    Name::ServeScript,
+    Name::Attach,
+    Name::Pair,
+    Name::Record,
 ];
 
 /// Reads the words, the first of which is the program's name.
@@ -266,7 +272,7 @@ fn name_of(words: &Words<'_>) -> Name {
 /// A file is written to that is read, or written to for something else.
 fn emptying<'a>(alloc: Global, emptied: Emptied, of: Name) -> Fault<'a> {
     match emptying_message(alloc, emptied) {
-        Ok(message) => bad_words(alloc, named_in_full(alloc, of), message.as_str()),
+        Ok(message) => refusal(alloc, of, message.as_str()),
         Err(_) => Fault::NoMemory,
     }
 }
@@ -294,7 +300,7 @@ fn read_matches<'a, S: AsStr>(
         Some(("serve-script", found)) => Ok(Words::ServeScript(read_serve_script(alloc, found)?)),
         Some(("record", found)) => Ok(Words::Record(read_record(alloc, found)?)),
         Some((name, found)) if runs_plan(words) => read_session(alloc, name, found),
-        _ => Err(bad_words(alloc, command(alloc), "a command is missing")),
+        _ => Err(refusal_of_all(alloc, "a command is missing")),
     }
 }
 
@@ -387,7 +393,7 @@ fn read_serve_script<'a>(
 fn read_profile<'a>(alloc: Global, found: &ArgMatches<'a>, of: Name) -> Result<Profile, Fault<'a>> {
     match profile(value(alloc, found, "profile")?) {
         Some(profile) => Ok(profile),
-        None => Err(bad_words(alloc, named_in_full(alloc, of), "the options don't read")),
+        None => Err(refusal(alloc, of, "the options don't read")),
     }
 }
 
@@ -409,9 +415,9 @@ fn read_server_peer<'a>(
     is_live: bool,
 ) -> Result<Peer<'a>, Fault<'a>> {
     match read_peer(alloc, found, Name::ServeScript)? {
-        Peer::Port(0) if !is_live => Err(bad_words(
+        Peer::Port(0) if !is_live => Err(refusal(
             alloc,
-            named_in_full(alloc, Name::ServeScript),
+            Name::ServeScript,
             "invalid value '0' for '--port <N>': 0 is not in 1..=65535",
         )),
         peer => Ok(peer),
@@ -429,7 +435,7 @@ fn read_settings<'a>(
     let limits = read_limits(alloc, found, of)?;
     match settings(start, count_limit, limits) {
         Some(settings) => Ok(settings),
-        None => Err(bad_words(alloc, named_in_full(alloc, of), "the options don't read")),
+        None => Err(refusal(alloc, of, "the options don't read")),
     }
 }
 
@@ -452,7 +458,7 @@ fn read_limits<'a>(alloc: Global, found: &ArgMatches<'a>, of: Name) -> Result<Li
 /// The value of an option of this command that is no limits, told with the command's usage.
 fn bad_limits<'a>(alloc: Global, text: &str, of: Name) -> Fault<'a> {
     match limits_message(alloc, text) {
-        Ok(message) => bad_words(alloc, named_in_full(alloc, of), message.as_str()),
+        Ok(message) => refusal(alloc, of, message.as_str()),
         Err(_) => Fault::NoMemory,
     }
 }
@@ -488,13 +494,13 @@ fn read_timeout<'a>(alloc: Global, found: &ArgMatches<'a>) -> Result<Option<u32>
 fn read_order<'a>(alloc: Global, found: &ArgMatches<'a>, of: Name) -> Result<Order, Fault<'a>> {
     match order(value(alloc, found, "order")?) {
         Some(order) => Ok(order),
-        None => Err(bad_words(alloc, named_in_full(alloc, of), "the options don't read")),
+        None => Err(refusal(alloc, of, "the options don't read")),
     }
 }
 
 fn read_pair<'a>(alloc: Global, found: &ArgMatches<'a>) -> Result<Pair<'a>, Fault<'a>> {
     Ok(Pair {
-        settings: read_settings(alloc, found, COUNT_LIMIT, Name::Pair)?,
+        settings: read_settings(alloc, found, STANDARD_COUNT_LIMIT, Name::Pair)?,
         defer: found.get_flag("defer"),
         machine: value(alloc, found, "machine")?,
         plan: value(alloc, found, "plan")?,
@@ -540,7 +546,7 @@ fn read_peer<'a>(alloc: Global, found: &ArgMatches<'a>, of: Name) -> Result<Peer
 /// Words of this command in which these options are missing.
 fn missing<'a>(alloc: Global, of: Name, options: &str) -> Fault<'a> {
     match missing_message(alloc, options) {
-        Ok(message) => bad_words(alloc, named_in_full(alloc, of), message.as_str()),
+        Ok(message) => refusal(alloc, of, message.as_str()),
         Err(_) => Fault::NoMemory,
     }
 }
@@ -560,7 +566,7 @@ fn port_number<'a>(
     let number = number(alloc, found, name, of)?;
     match u16::try_from(number) {
         Ok(port) => Ok(port),
-        Err(_) => Err(bad_words(alloc, named_in_full(alloc, of), "a port is 1 to 65535")),
+        Err(_) => Err(refusal(alloc, of, "a port is 1 to 65535")),
     }
 }
 
@@ -568,7 +574,7 @@ fn port_number<'a>(
 fn value<'a>(alloc: Global, found: &ArgMatches<'a>, name: &str) -> Result<&'a str, Fault<'a>> {
     match found.get_str(name) {
         Some(text) => Ok(text),
-        None => Err(bad_words(alloc, command(alloc), "a value is missing")),
+        None => Err(refusal_of_all(alloc, "a value is missing")),
     }
 }
 
@@ -589,7 +595,7 @@ fn number<'a>(
 /// The value of an option of this command that is no number, told with the command's usage.
 fn bad_number<'a>(alloc: Global, text: &str, name: &str, of: Name) -> Fault<'a> {
     match number_message(alloc, text, name) {
-        Ok(message) => bad_words(alloc, named_in_full(alloc, of), message.as_str()),
+        Ok(message) => refusal(alloc, of, message.as_str()),
         Err(_) => Fault::NoMemory,
     }
 }
@@ -602,6 +608,16 @@ fn number_message(alloc: Global, text: &str, name: &str) -> Result<String, Alloc
         "N"
     };
     format!(in alloc; "invalid value '{text}' for '--{name} <{shown}>': a number is digits alone")
+}
+
+/// Words of this command that clap takes and the program doesn't, told with the command's usage.
+fn refusal<'a>(alloc: Global, of: Name, message: &str) -> Fault<'a> {
+    bad_words(alloc, named_in_full(alloc, of), message)
+}
+
+/// The same of the program's usage.
+fn refusal_of_all<'a>(alloc: Global, message: &str) -> Fault<'a> {
+    bad_words(alloc, command(alloc), message)
 }
 
 /// The command with the program's name before its own.
@@ -624,69 +640,43 @@ fn program<'a>(alloc: Global) -> Result<Command<'a>, AllocError> {
         .bin_name("jdwp")
 }
 
-/// The commands of the program, in the order in which help tells them.
+/// The commands of the program.
 fn commands<'a>(alloc: Global) -> Result<Vec<Command<'a>>, AllocError> {
     let mut commands = Vec::new(alloc);
-    for name in [
-        Name::Show,
-        Name::Check,
-        Name::Capture,
-        Name::Draw,
-        Name::ServeScript,
-        Name::Attach,
-        Name::Pair,
-        Name::Record,
-    ] {
-        commands.push(named(alloc, name)?)?;
-    }
+    push_commands(alloc, &mut commands)?;
     Ok(commands)
+}
+
+/// Appends them.
+fn push_commands<'a>(alloc: Global, commands: &mut Vec<Command<'a>>) -> Result<(), AllocError> {
+    for name in &NAMES {
+        commands.push(named(alloc, *name)?)?;
+    }
+    Ok(())
 }
 
 /// The command of this name.
 fn named<'a>(alloc: Global, name: Name) -> Result<Command<'a>, AllocError> {
     let (alone, about): (&'a str, &'a str) = (name.alone(), name.about());
-    let arguments = arguments(alloc, name.parts())?;
+    let arguments = arguments(alloc, name.arguments())?;
     Command::new(alloc, alone).about(about).args(arguments)
 }
 
-/// These parts as clap's arguments.
-fn arguments<'a>(alloc: Global, parts: &[Part]) -> Result<Vec<Arg<'a>>, AllocError> {
+/// These arguments as clap's.
+fn arguments<'a>(alloc: Global, all: &[Argument]) -> Result<Vec<Arg<'a>>, AllocError> {
     let mut arguments = Vec::new(alloc);
-    for part in parts {
-        arguments.push(argument_of(alloc, *part)?)?;
-    }
+    push_arguments(alloc, all, &mut arguments)?;
     Ok(arguments)
 }
 
-/// The part as clap's argument.
-fn argument_of<'a>(alloc: Global, part: Part) -> Result<Arg<'a>, AllocError> {
-    match part {
-        Part::From(help) => Ok(from(alloc, help)),
-        Part::To(help) => Ok(to(alloc, help)),
-        Part::Port(help, least) => port(alloc, help, least),
-        Part::Live => live(alloc),
-        Part::Pace => pace(alloc),
-        Part::Machine => Ok(machine(alloc)),
-        Part::Plan(help) => Ok(plan(alloc, help)),
-        Part::Capture(help) => Ok(capture(alloc, help)),
-        Part::TargetPort => Ok(target_port(alloc)),
-        Part::Stream => Ok(stream(alloc)),
-        Part::FirstMessage => Ok(first_message(alloc)),
-        Part::MessageCount => Ok(message_count(alloc)),
-        Part::Memory => Ok(memory(alloc)),
-        Part::Start => Ok(start(alloc)),
-        Part::CountLimit => Ok(count_limit(alloc)),
-        Part::Profile(help) => Ok(profile_option(alloc, help)),
-        Part::Order => Ok(order_option(alloc)),
-        Part::Limits => Ok(limits_option(alloc)),
-        Part::Defer => Ok(defer(alloc)),
-        Part::Turns(help) => Ok(turns(alloc, help)),
-        Part::Timeout => timeout(alloc),
-        Part::Junit => Ok(junit(alloc)),
-        Part::Listen => Ok(listen(alloc)),
-        Part::Target => Ok(target(alloc)),
-        Part::RecordedTo => Ok(recorded_to(alloc)),
-        Part::Show => Ok(show(alloc)),
-        Part::Once => Ok(once(alloc)),
+/// Appends them.
+fn push_arguments<'a>(
+    alloc: Global,
+    all: &[Argument],
+    arguments: &mut Vec<Arg<'a>>,
+) -> Result<(), AllocError> {
+    for argument in all {
+        arguments.push(argument.to_arg(alloc)?)?;
     }
+    Ok(())
 }
