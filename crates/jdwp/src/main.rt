@@ -1,30 +1,10 @@
 //! Ends of the Java Debug Wire Protocol, run on files.
 #![tactic(auto)]
 
-#[cfg(test)]
-mod asserts;
-#[cfg(test)]
-mod breaking_tests;
-#[cfg(test)]
-mod peer_tests;
 mod prompt;
-#[cfg(test)]
-mod recording_tests;
-#[cfg(test)]
-mod runs;
-#[cfg(test)]
-mod same_file_tests;
-mod streams;
-#[cfg(test)]
-mod tests;
-#[cfg(test)]
-mod word_tests;
-#[cfg(test)]
-mod written_tests;
 
 use crate::prompt::Prompt;
-use crate::streams::fill_standard_streams;
-use jdwp_files::run;
+use jdwp_files::{fill_standard_streams, run};
 use jdwp_program::{Fault, report_fault};
 use std::env;
 use std::io::ErrorKind;

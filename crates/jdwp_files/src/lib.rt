@@ -9,7 +9,9 @@ mod paired;
 mod recording;
 mod running;
 mod sessions;
+mod streams;
 mod written;
 
 pub use jdwp_words::read;
 pub use running::run;
+pub use streams::fill_standard_streams;

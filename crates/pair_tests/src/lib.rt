@@ -1,11 +1,14 @@
-//! Runs of both ends by plans; plans, captures and faults that are told; what stands between two ends and writes down what they say: tests of
-//! `jdwp_pair`, `jdwp_attach`, `jdwp_program` and `jdwp_record`, which call what anybody can call.
+//! Runs of both ends by plans; plans, captures and faults that are told; what stands between two ends and writes down what they say: and the
+//! program's command lines: tests of `jdwp_pair`, `jdwp_attach`, `jdwp_program`, `jdwp_words`, `jdwp_files` and `jdwp_record`, which call what
+//! anybody can call.
 #![tactic(auto)]
 
 #[cfg(test)]
 mod apart_tests;
 #[cfg(test)]
 mod asserts;
+#[cfg(test)]
+mod command_lines;
 #[cfg(test)]
 mod connection_tests;
 #[cfg(test)]

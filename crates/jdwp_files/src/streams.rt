@@ -14,9 +14,7 @@ const STANDARD_STREAMS: usize = 3;
 ///
 /// # Errors
 /// What the system tells where the null device can't be opened.
-pub(crate) fn fill_standard_streams<R: Files>(
-    files: &R,
-) -> io::Result<[R::File; STANDARD_STREAMS]> {
+pub fn fill_standard_streams<R: Files>(files: &R) -> io::Result<[R::File; STANDARD_STREAMS]> {
     let mut both_ways = OpenOptions::new();
     both_ways.read(true).write(true);
     Ok([

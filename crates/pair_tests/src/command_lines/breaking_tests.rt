@@ -1,8 +1,8 @@
 //! Runs of the program whose output breaks.
 use crate::asserts::{expect_same, expect_same_for};
-use crate::runs::{ANSWERS, remove, write};
-use crate::tests::{CAPTURE, PLAN, PRINTED, SHOWN};
-use crate::written_tests as written;
+use crate::command_lines::file_tests::{CAPTURE, PLAN, PRINTED, SHOWN};
+use crate::command_lines::runs::{ANSWERS, remove, write};
+use crate::command_lines::written_tests as written;
 use jdwp_files::run;
 use std::io;
 use std::io::{Cursor, ErrorKind, Write};

@@ -1,6 +1,6 @@
 //! Runs of the program without files between its ends.
-use crate::runs::{Holds, MACHINE, SCENE, Scene, Tells, go};
-use crate::written_tests::{PLAN as WORDS, PRINTED as TOLD};
+use crate::command_lines::runs::{Holds, MACHINE, SCENE, Scene, Tells, go};
+use crate::command_lines::written_tests::{PLAN as WORDS, PRINTED as TOLD};
 
 /// A breakpoint that suspends all threads, then Resume; and the mirror once it was reached.
 const PLAN: &str = "ask 15 1 0202000000010701000000000000000a00000000000000140000000000000003

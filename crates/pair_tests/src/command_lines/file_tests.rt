@@ -1,10 +1,10 @@
 //! Runs of the program on files.
 use crate::asserts::expect_same;
-use crate::runs::{
+use crate::command_lines::runs::{
     ANSWERS, AT_LIMIT, Holds, MACHINE, SCENE, SESSION, Scene, Tells, file_holds, go, is_refused,
     is_run, remove, write,
 };
-use crate::streams::fill_standard_streams;
+use jdwp_files::fill_standard_streams;
 use std::io::{Read, Write};
 use std::net::Net;
 use std::process::Abort;

@@ -1,5 +1,5 @@
 //! Files that are read are not written.
-use crate::runs::{Holds, SCENE, Scene, Tells, go};
+use crate::command_lines::runs::{Holds, SCENE, Scene, Tells, go};
 
 /// A file that is there.
 const SAME: &[(&str, Holds)] = &[("same", Holds::Text("text"))];

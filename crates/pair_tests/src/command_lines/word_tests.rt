@@ -1,6 +1,8 @@
 //! Words that the program takes, and words that it refuses.
 use crate::asserts::expect_same_for;
-use crate::runs::{MACHINE, SESSION, is_not_made, is_refused, is_run, remove, status_of, write};
+use crate::command_lines::runs::{
+    MACHINE, SESSION, is_not_made, is_refused, is_run, remove, status_of, write,
+};
 use jdwp_debuggee::Settings;
 use jdwp_debugger::Order;
 use jdwp_machine::Profile;

@@ -1,5 +1,7 @@
 //! Runs of plans in words.
-use crate::runs::{ANSWERS, SESSION, file_holds, is_not_made, is_run, remove, write};
+use crate::command_lines::runs::{
+    ANSWERS, SESSION, file_holds, is_not_made, is_run, remove, write,
+};
 use std::net::{Ipv4Addr, Net, OpenListener, SocketAddr};
 use std::process::Abort;
 

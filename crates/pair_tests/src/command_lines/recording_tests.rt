@@ -1,5 +1,5 @@
 //! Words of a recorder.
-use crate::word_tests::{are_read, is_helped};
+use crate::command_lines::word_tests::{are_read, is_helped};
 use jdwp_program::{Record, Words};
 use std::alloc::Global;
 use std::process::Abort;
