@@ -4,3 +4,4 @@ pub mod Rising
 pub mod CompositeKept
 pub mod ModifierPassed
 pub mod KindsAsked
+pub mod Picked

@@ -18,9 +18,9 @@ ghost use Rattle.jdwp_event.specs.CompositeBytes.{EncodesComposite, composite_ca
 ghost use Rattle.jdwp_event.specs.CompositeLaws.{composite_codes, composite_unrefused};
 ghost use Rattle.jdwp_event.specs.Constants.{policy_byte};
 ghost use Rattle.jdwp_event.specs.Filters.{all_counted, passes, passing};
-ghost use Rattle.jdwp_event.specs.Composites.{composite_data, event_for, gathered, vm_start, vm_death};
+ghost use Rattle.jdwp_event.specs.Occurrences.{occurrence_meaning};
+ghost use Rattle.jdwp_event.specs.Composites.{composite_data, details, event_for, gathered, vm_start, vm_death};
 
-use crate::filter::place_seen;
 use crate::happening::{Happening, Occurrence};
 use crate::kind::EventKind;
 use crate::policy::Policy;
@@ -227,18 +227,20 @@ impl Composite {
 }
 
 /// The policy and the entries of data that are a byte and a list.
+#[tactic(auto, using(std::proofs::lemmas::Grind::common_steps))]
 fn policy_and_entries(carried: Data) -> Option<(u8, Vec<Vec<Scalar>>)>
     ensures { option_map (λ p. with_policy p.0 (entry_meanings p.1.items)) result
         ≡ composite_of carried }
 {
     let mut items = carried.into_items();
-    let Some(Datum::Many(entries)) = items.pop() else {
+    let [Datum::One(Scalar::Byte(policy)), Datum::Many(_)] = items.as_slice() else {
         return None;
     };
-    let [Datum::One(Scalar::Byte(policy))] = items.as_slice() else {
-        return None;
-    };
-    Some((*policy, entries))
+    let policy = *policy;
+    match items.pop() {
+        Some(Datum::Many(entries)) => Some((policy, entries)),
+        _ => unreachable!(),
+    }
 }
 
 /// The events of these fields.
@@ -467,19 +469,40 @@ fn report(alloc: Global, request: &Request, happening: &Happening) -> Result<Eve
     ensures { IfOk result (λ e. e ≡ event_for happening.now request.now) }
 {
     let kind = request.kind();
-    let occurrence = happening.occurrence();
     let mut fields = Vec::with_capacity(alloc, 7)?;
     fields.push_reserved(Scalar::Byte(kind));
     fields.push_reserved(Scalar::Int(request.id() as i32));
     fields.push_reserved(Scalar::ObjectId(happening.thread()));
-    if let Some(place) = place_seen(occurrence) {
-        fields.push_reserved(Scalar::Location(place.location));
-    }
+    put_details(alloc, kind, happening.occurrence(), &mut fields)?;
+    Ok(Event { fields })
+}
+
+/// Appends what an event of the kind tells of the occurrence, behind its thread.
+///
+/// # Errors
+/// `NoMemory` where an allocation was refused.
+fn put_details(
+    alloc: Global,
+    kind: u8,
+    occurrence: &Occurrence,
+    fields: &mut Vec<Scalar>,
+) -> Result<(), NoMemory>
+    requires { vec_len fields.old + 4 ≤ vec_capacity fields.old }
+    ensures { IfOk result (λ _. scalar_meanings fields.new.items
+        ≡ scalar_meanings fields.old.items ++ details kind (occurrence_meaning occurrence.now)) }
+{
     match occurrence {
-        Occurrence::Left(_, value) if kind == EventKind::MethodExitWithReturnValue.byte() => {
-            fields.push_reserved(Scalar::Value(*value));
+        Occurrence::Moved(place) | Occurrence::Entered(place) => {
+            fields.push_reserved(Scalar::Location(place.location));
         }
-        Occurrence::Threw(_, thrown) => {
+        Occurrence::Left(place, value) => {
+            fields.push_reserved(Scalar::Location(place.location));
+            if kind == EventKind::MethodExitWithReturnValue.byte() {
+                fields.push_reserved(Scalar::Value(*value));
+            }
+        }
+        Occurrence::Threw(place, thrown) => {
+            fields.push_reserved(Scalar::Location(place.location));
             fields.push_reserved(Scalar::TaggedId(thrown.exception));
             fields.push_reserved(Scalar::Location(thrown.caught_at));
         }
@@ -490,7 +513,7 @@ fn report(alloc: Global, request: &Request, happening: &Happening) -> Result<Eve
             fields.push_reserved(Scalar::String(signature));
             fields.push_reserved(Scalar::Int(prepared.status));
         }
-        _ => {}
+        Occurrence::Started | Occurrence::RanOut => {}
     }
-    Ok(Event { fields })
+    Ok(())
 }

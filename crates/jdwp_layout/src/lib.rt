@@ -9,6 +9,7 @@ mod datum;
 mod entry;
 pub mod event_kinds;
 mod fitting;
+mod held;
 pub mod invocation;
 mod item;
 pub mod laws;

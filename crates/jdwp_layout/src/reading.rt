@@ -13,6 +13,7 @@ ghost use Rattle.jdwp_layout.specs.Keeping.{FieldIsKept, FieldsAreKept, EntryIsK
 ghost use Rattle.jdwp_layout.specs.Reads.{field_at, fields_at, fields_of_at, entry_at, item_at, items_at, data_at};
 
 use crate::datum::{Datum, Scalar};
+use crate::held::Held;
 use crate::item::{Entry, Field, Item, Layout, fields_of_kind};
 use crate::validation::validate;
 use jdwp_value::{
@@ -247,57 +248,33 @@ pub fn read_field<'a>(
     ensures memory { IsErrOf result NoMemory → FieldIsKept field rest.now }
 {
     match field {
-        Field::Byte => {
-            let (byte, rest) = u8::take_front(alloc, rest, whole, sizes)?;
-            Ok((Scalar::Byte(byte), rest))
-        }
-        Field::Boolean => {
-            let (truth, rest) = bool::take_front(alloc, rest, whole, sizes)?;
-            Ok((Scalar::Boolean(truth), rest))
-        }
-        Field::Int => {
-            let (number, rest) = i32::take_front(alloc, rest, whole, sizes)?;
-            Ok((Scalar::Int(number), rest))
-        }
-        Field::Long => {
-            let (number, rest) = i64::take_front(alloc, rest, whole, sizes)?;
-            Ok((Scalar::Long(number), rest))
-        }
-        Field::String => {
-            let (text, rest) = String::take_front(alloc, rest, whole, sizes)?;
-            Ok((Scalar::String(text), rest))
-        }
-        Field::ObjectId => {
-            let (id, rest) = ObjectId::take_front(alloc, rest, whole, sizes)?;
-            Ok((Scalar::ObjectId(id), rest))
-        }
-        Field::ReferenceTypeId => {
-            let (id, rest) = ReferenceTypeId::take_front(alloc, rest, whole, sizes)?;
-            Ok((Scalar::ReferenceTypeId(id), rest))
-        }
-        Field::MethodId => {
-            let (id, rest) = MethodId::take_front(alloc, rest, whole, sizes)?;
-            Ok((Scalar::MethodId(id), rest))
-        }
-        Field::FieldId => {
-            let (id, rest) = FieldId::take_front(alloc, rest, whole, sizes)?;
-            Ok((Scalar::FieldId(id), rest))
-        }
-        Field::FrameId => {
-            let (id, rest) = FrameId::take_front(alloc, rest, whole, sizes)?;
-            Ok((Scalar::FrameId(id), rest))
-        }
-        Field::Location => {
-            let (location, rest) = Location::take_front(alloc, rest, whole, sizes)?;
-            Ok((Scalar::Location(location), rest))
-        }
-        Field::Value => {
-            let (value, rest) = Value::take_front(alloc, rest, whole, sizes)?;
-            Ok((Scalar::Value(value), rest))
-        }
-        Field::TaggedId => {
-            let (tagged, rest) = TaggedId::take_front(alloc, rest, whole, sizes)?;
-            Ok((Scalar::TaggedId(tagged), rest))
-        }
+        Field::Byte => take_scalar::<u8>(alloc, rest, whole, sizes),
+        Field::Boolean => take_scalar::<bool>(alloc, rest, whole, sizes),
+        Field::Int => take_scalar::<i32>(alloc, rest, whole, sizes),
+        Field::Long => take_scalar::<i64>(alloc, rest, whole, sizes),
+        Field::String => take_scalar::<String>(alloc, rest, whole, sizes),
+        Field::ObjectId => take_scalar::<ObjectId>(alloc, rest, whole, sizes),
+        Field::ReferenceTypeId => take_scalar::<ReferenceTypeId>(alloc, rest, whole, sizes),
+        Field::MethodId => take_scalar::<MethodId>(alloc, rest, whole, sizes),
+        Field::FieldId => take_scalar::<FieldId>(alloc, rest, whole, sizes),
+        Field::FrameId => take_scalar::<FrameId>(alloc, rest, whole, sizes),
+        Field::Location => take_scalar::<Location>(alloc, rest, whole, sizes),
+        Field::Value => take_scalar::<Value>(alloc, rest, whole, sizes),
+        Field::TaggedId => take_scalar::<TaggedId>(alloc, rest, whole, sizes),
     }
+}
+
+/// What a field of such a type holds, and what follows it.
+fn take_scalar<'a, T: Held>(
+    alloc: Global,
+    rest: &'a [u8],
+    whole: usize,
+    sizes: &IdSizes,
+) -> Result<(Scalar, &'a [u8]), DataFault>
+    ensures value { Gives (λ x. (scalar_meaning x.0, x.1.now)) result
+        (field_at sizes.now whole T.of_field rest.now) }
+    ensures memory { IsErrOf result NoMemory → FieldIsKept T.of_field rest.now }
+{
+    let (value, rest) = T::take_front(alloc, rest, whole, sizes)?;
+    Ok((value.into_scalar(), rest))
 }
