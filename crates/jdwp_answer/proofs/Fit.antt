@@ -1,15 +1,15 @@
 -- What bytes encode under a layout is in the layout, and data of one value an item are a record's.
-use Rattle.std.proofs.Common.{◌≡◌, ℕ, ℤ, List, [], ◌∷◌, ◌++◌, map, Option, Some, refl, sym, ◌∙◌, ap, subst}
+use Rattle.std.proofs.Common.{◌≡◌, ℕ, List, [], ◌∷◌, ◌++◌, map, Option, Some, refl, sym, ◌∙◌, ap, subst}
 use Rattle.std.specs.List.{AllByRecursion}
 use Rattle.jdwp_wire.specs.Widths.{Widths}
 use Rattle.jdwp_layout.specs.declared.item.Field.{Field}
 use Rattle.jdwp_layout.specs.declared.item.Field.TheVariants as field
 use Rattle.jdwp_layout.specs.Grammar.{kind_of, EncodesFields, EncodesKind, EncodesEntry, EncodesItem, EncodesData}
-use Rattle.jdwp_layout.specs.Meanings.{ScalarMeaning, Byte, Int, Long, DatumMeaning, One, Many, Elements, Raw}
+use Rattle.jdwp_layout.specs.Meanings.{ScalarMeaning, Byte, DatumMeaning, One, Many, Elements, Raw}
 use Rattle.jdwp_layout.specs.ModifiersAndEvents.{modifier_fields, event_fields}
 use Rattle.jdwp_layout.specs.Shapes.{EntryShape, Fields, Modifiers, Events, ItemShape, OneOf, ListOf, RegionOf}
 use Rattle.jdwp_wire.specs.Each.{EncodesAll}
-use Rattle.jdwp_answer.specs.Shaped.{HasFields, HasKind, HasEntry, HasItem, HasItems, one_each, ones, AreOnes, IsOneList, IsRangeAndList, IsCountAndList, AreTwoLists, IsRegion}
+use Rattle.jdwp_answer.specs.Shaped.{HasFields, HasKind, HasEntry, HasItem, HasItems, one_each, ones, AreOnes, IsList, AreNone, Are, Begins, IsOneList, IsRangeAndList, IsCountAndList, AreTwoLists, IsRegion}
 
 -- ---- lists
 
@@ -107,19 +107,38 @@ none_have fields xs ys are none h =
     let same : t.0 ≡ ys = sym (ones_same ys t.0 (are ∙ t.1)) in
     none (subst (λ (l : List ScalarMeaning). HasFields fields l) same t.2)
 
--- ---- lists
+-- ---- item by item
 
-is_one_list : (fields : List Field) (xs : List DatumMeaning) → HasItems (ListOf (Fields fields) ∷ []) xs → IsOneList xs
-is_one_list fields [] h = absurd h
-is_one_list fields (Many entries ∷ []) h = tt
-is_one_list fields (Many entries ∷ x ∷ xs) h = absurd h.1
-is_one_list fields (One x ∷ xs) h = absurd h.0
-is_one_list fields (Elements region ∷ xs) h = absurd h.0
-is_one_list fields (Raw bytes ∷ xs) h = absurd h.0
+no_items : (xs : List DatumMeaning) → HasItems [] xs → AreNone xs
+no_items [] h = tt
+no_items (x ∷ xs) h = absurd h
+
+item_and : (First : DatumMeaning → Type 0) (Others : List DatumMeaning → Type 0) (item : ItemShape) (items : List ItemShape)
+    → ((x : DatumMeaning) → HasItem item x → First x) → ((xs : List DatumMeaning) → HasItems items xs → Others xs)
+    → (xs : List DatumMeaning) → HasItems (item ∷ items) xs → Are First Others xs
+item_and First Others item items first others [] h = absurd h
+item_and First Others item items first others (x ∷ xs) h = (first x h.0, others xs h.1)
+
+begins : (First : DatumMeaning → Type 0) (Others : List DatumMeaning → Type 0) (xs : List DatumMeaning) → Are First Others xs → Begins First xs
+begins First Others [] h = absurd h
+begins First Others (x ∷ xs) h = h.0
+
+-- items of which the first is not so
+pub none_begin : (First : DatumMeaning → Type 0) (Others : List DatumMeaning → Type 0) (xs : List DatumMeaning) → (Begins First xs → ⊥) → Are First Others xs → ⊥
+none_begin First Others xs none h = none (begins First Others xs h)
+
+is_list : (entry : EntryShape) (x : DatumMeaning) → HasItem (ListOf entry) x → IsList x
+is_list entry (Many entries) h = tt
+is_list entry (One x) h = absurd h
+is_list entry (Elements region) h = absurd h
+is_list entry (Raw bytes) h = absurd h
+
+one_list_is : (entry : EntryShape) (xs : List DatumMeaning) → HasItems (ListOf entry ∷ []) xs → IsOneList xs
+one_list_is entry = item_and IsList AreNone (ListOf entry) [] (is_list entry) no_items
 
 -- data that are not one list are in no layout of one
 pub none_is_list : (fields : List Field) (xs : List DatumMeaning) → (IsOneList xs → ⊥) → HasItems (ListOf (Fields fields) ∷ []) xs → ⊥
-none_is_list fields xs none h = none (is_one_list fields xs h)
+none_is_list fields xs none h = none (one_list_is (Fields fields) xs h)
 
 -- a list with an entry that is not of these fields is in no layout of one
 pub none_in_list : (fields : List Field) (xs : List DatumMeaning) (entries : List (List ScalarMeaning)) → Many entries ∷ [] ≡ xs
@@ -130,78 +149,24 @@ none_in_list fields xs entries is none h =
 
 -- ---- data that end with a list
 
-long_is : (x : ScalarMeaning) → kind_of x ≡ field.Long → (z : ℤ) × (x ≡ Long z)
-long_is (Long z) e = (z, refl)
-long_is x e = absurd cc
-
-int_is : (x : ScalarMeaning) → kind_of x ≡ field.Int → (z : ℤ) × (x ≡ Int z)
-int_is (Int z) e = (z, refl)
-int_is x e = absurd cc
-
-range_and_list : (entry : EntryShape) (xs : List DatumMeaning) → HasItems (OneOf field.Long ∷ OneOf field.Long ∷ ListOf entry ∷ []) xs → IsRangeAndList xs
-range_and_list entry [] h = absurd h
-range_and_list entry (One x ∷ []) h = absurd h.1
-range_and_list entry (One x ∷ One y ∷ []) h = absurd h.1.1
-range_and_list entry (One x ∷ One y ∷ Many entries ∷ []) h =
-    let a = long_is x h.0 in
-    let b = long_is y h.1.0 in
-    let last : IsRangeAndList (One (Long a.0) ∷ One y ∷ Many entries ∷ []) =
-    subst (λ (v : ScalarMeaning). IsRangeAndList (One (Long a.0) ∷ One v ∷ Many entries ∷ [])) (sym b.1) tt in
-    subst (λ (u : ScalarMeaning). IsRangeAndList (One u ∷ One y ∷ Many entries ∷ [])) (sym a.1) last
-range_and_list entry (One x ∷ One y ∷ Many entries ∷ z ∷ zs) h = absurd h.1.1.1
-range_and_list entry (One x ∷ One y ∷ One z ∷ zs) h = absurd h.1.1.0
-range_and_list entry (One x ∷ One y ∷ Elements region ∷ zs) h = absurd h.1.1.0
-range_and_list entry (One x ∷ One y ∷ Raw bytes ∷ zs) h = absurd h.1.1.0
-range_and_list entry (One x ∷ Many entries ∷ ys) h = absurd h.1.0
-range_and_list entry (One x ∷ Elements region ∷ ys) h = absurd h.1.0
-range_and_list entry (One x ∷ Raw bytes ∷ ys) h = absurd h.1.0
-range_and_list entry (Many entries ∷ xs) h = absurd h.0
-range_and_list entry (Elements region ∷ xs) h = absurd h.0
-range_and_list entry (Raw bytes ∷ xs) h = absurd h.0
+count_and_list : (kind : Field) (entry : EntryShape) (xs : List DatumMeaning) → HasItems (OneOf kind ∷ ListOf entry ∷ []) xs
+    → Are (HasItem (OneOf kind)) (Are IsList AreNone) xs
+count_and_list kind entry = item_and (HasItem (OneOf kind)) (Are IsList AreNone) (OneOf kind) (ListOf entry ∷ []) (λ x h. h) (one_list_is entry)
 
 pub none_is_range : (entry : EntryShape) (xs : List DatumMeaning) → (IsRangeAndList xs → ⊥) → HasItems (OneOf field.Long ∷ OneOf field.Long ∷ ListOf entry ∷ []) xs → ⊥
-none_is_range entry xs none h = none (range_and_list entry xs h)
-
-count_and_list : (entry : EntryShape) (xs : List DatumMeaning) → HasItems (OneOf field.Int ∷ ListOf entry ∷ []) xs → IsCountAndList xs
-count_and_list entry [] h = absurd h
-count_and_list entry (One x ∷ []) h = absurd h.1
-count_and_list entry (One x ∷ Many entries ∷ []) h = let a = int_is x h.0 in subst (λ (u : ScalarMeaning). IsCountAndList (One u ∷ Many entries ∷ [])) (sym a.1) tt
-count_and_list entry (One x ∷ Many entries ∷ y ∷ ys) h = absurd h.1.1
-count_and_list entry (One x ∷ One y ∷ ys) h = absurd h.1.0
-count_and_list entry (One x ∷ Elements region ∷ ys) h = absurd h.1.0
-count_and_list entry (One x ∷ Raw bytes ∷ ys) h = absurd h.1.0
-count_and_list entry (Many entries ∷ xs) h = absurd h.0
-count_and_list entry (Elements region ∷ xs) h = absurd h.0
-count_and_list entry (Raw bytes ∷ xs) h = absurd h.0
+none_is_range entry xs none h =
+    none (item_and (HasItem (OneOf field.Long)) (Are (HasItem (OneOf field.Long)) (Are IsList AreNone)) (OneOf field.Long) (OneOf field.Long ∷ ListOf entry ∷ [])
+    (λ x h. h) (count_and_list field.Long entry) xs h)
 
 pub none_is_count : (entry : EntryShape) (xs : List DatumMeaning) → (IsCountAndList xs → ⊥) → HasItems (OneOf field.Int ∷ ListOf entry ∷ []) xs → ⊥
-none_is_count entry xs none h = none (count_and_list entry xs h)
-
-two_lists : (first second : EntryShape) (xs : List DatumMeaning) → HasItems (ListOf first ∷ ListOf second ∷ []) xs → AreTwoLists xs
-two_lists first second [] h = absurd h
-two_lists first second (Many a ∷ []) h = absurd h.1
-two_lists first second (Many a ∷ Many b ∷ []) h = tt
-two_lists first second (Many a ∷ Many b ∷ x ∷ xs) h = absurd h.1.1
-two_lists first second (Many a ∷ One x ∷ xs) h = absurd h.1.0
-two_lists first second (Many a ∷ Elements region ∷ xs) h = absurd h.1.0
-two_lists first second (Many a ∷ Raw bytes ∷ xs) h = absurd h.1.0
-two_lists first second (One x ∷ xs) h = absurd h.0
-two_lists first second (Elements region ∷ xs) h = absurd h.0
-two_lists first second (Raw bytes ∷ xs) h = absurd h.0
+none_is_count entry xs none h = none (count_and_list field.Int entry xs h)
 
 pub none_are_lists : (first second : EntryShape) (xs : List DatumMeaning) → (AreTwoLists xs → ⊥) → HasItems (ListOf first ∷ ListOf second ∷ []) xs → ⊥
-none_are_lists first second xs none h = none (two_lists first second xs h)
-
-region : (xs : List DatumMeaning) → HasItems (RegionOf ∷ []) xs → IsRegion xs
-region [] h = absurd h
-region (Elements r ∷ []) h = tt
-region (Elements r ∷ x ∷ xs) h = absurd h.1
-region (One x ∷ xs) h = absurd h.0
-region (Many entries ∷ xs) h = absurd h.0
-region (Raw bytes ∷ xs) h = absurd h.0
+none_are_lists first second xs none h =
+    none (item_and IsList (Are IsList AreNone) (ListOf first) (ListOf second ∷ []) (is_list first) (one_list_is second) xs h)
 
 pub none_is_region : (xs : List DatumMeaning) → (IsRegion xs → ⊥) → HasItems (RegionOf ∷ []) xs → ⊥
-none_is_region xs none h = none (region xs h)
+none_is_region xs none h = none (item_and (HasItem RegionOf) AreNone RegionOf [] (λ x h. h) no_items xs h)
 
 -- data of these items are in no layout that they are not in
 pub none_such : (shape : List ItemShape) (ys xs : List DatumMeaning) → ys ≡ xs → (HasItems shape ys → ⊥) → HasItems shape xs → ⊥
@@ -216,3 +181,11 @@ has_at P (y ∷ before) x after h = has_at P before x after h.1
 -- where one of several is not so, they are not all
 pub none_at : {X : Type 0} (P : X → Type 0) (all before : List X) (x : X) (after : List X) → before ++ x ∷ after ≡ all → (P x → ⊥) → AllByRecursion P all → ⊥
 none_at {X = X} P all before x after is none h = none (has_at P before x after (subst (λ (l : List X). AllByRecursion P l) (sym is) h))
+
+map_joined : {X Y : Type 0} (f : X → Y) (xs : List X) (x : X) (ys : List Y) → map f (xs ++ x ∷ []) ++ ys ≡ map f xs ++ f x ∷ ys
+map_joined f [] x ys = refl
+map_joined f (z ∷ zs) x ys = ap (λ l. f z ∷ l) (map_joined f zs x ys)
+
+-- one more of several, each of which was made of one
+pub one_more : {X Y : Type 0} (f : X → Y) (xs now : List X) (x : X) (y : Y) (ys : List Y) → now ≡ xs ++ x ∷ [] → f x ≡ y → map f now ++ ys ≡ map f xs ++ y ∷ ys
+one_more {Y = Y} f xs now x y ys e h = ap (λ l. map f l ++ ys) e ∙ map_joined f xs x ys ∙ ap (λ (v : Y). map f xs ++ v ∷ ys) h

@@ -4,3 +4,4 @@ pub mod Shaped
 pub mod ShapedLaws
 pub mod Table
 pub mod Tables
+pub mod Truths

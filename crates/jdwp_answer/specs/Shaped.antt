@@ -2,8 +2,9 @@
 use Rattle.std.specs.Prelude.{◌≡◌, ℕ, Bool, List, [], ◌∷◌, map, Option, Some, None}
 use Rattle.std.specs.List.{AllByRecursion}
 use Rattle.jdwp_layout.specs.declared.item.Field.{Field}
+use Rattle.jdwp_layout.specs.declared.item.Field.TheVariants as field
 use Rattle.jdwp_layout.specs.Grammar.{kind_of}
-use Rattle.jdwp_layout.specs.Meanings.{ScalarMeaning, Boolean, Byte, Int, Long, DatumMeaning, One, Many, Elements}
+use Rattle.jdwp_layout.specs.Meanings.{ScalarMeaning, Boolean, Byte, DatumMeaning, One, Many, Elements}
 use Rattle.jdwp_layout.specs.ModifiersAndEvents.{modifier_fields, event_fields}
 use Rattle.jdwp_layout.specs.Shapes.{EntryShape, Fields, Modifiers, Events, ItemShape, OneOf, ListOf, RegionOf}
 
@@ -57,29 +58,46 @@ IsOne item = ⊥
 abbrev pub AreOnes : List DatumMeaning → Type 0
 AreOnes xs = AllByRecursion IsOne xs
 
+-- ---- data item by item
+
+-- an item that is a list
+abbrev pub IsList : DatumMeaning → Type 0
+IsList (Many entries) = Unit {0}
+IsList item = ⊥
+
+-- no items
+abbrev pub AreNone : List DatumMeaning → Type 0
+AreNone [] = Unit {0}
+AreNone xs = ⊥
+
+-- an item, whatever comes after it
+abbrev pub Begins : (DatumMeaning → Type 0) → List DatumMeaning → Type 0
+Begins First [] = ⊥
+Begins First (x ∷ xs) = First x
+
+-- an item, and others after it
+abbrev pub Are : (DatumMeaning → Type 0) → (List DatumMeaning → Type 0) → List DatumMeaning → Type 0
+Are First Others [] = ⊥
+Are First Others (x ∷ xs) = First x × Others xs
+
 -- ---- data that are one list
 
 abbrev pub one_list : List (List ScalarMeaning) → List DatumMeaning
 one_list entries = Many entries ∷ []
 
 abbrev pub IsOneList : List DatumMeaning → Type 0
-IsOneList (Many entries ∷ []) = Unit {0}
-IsOneList xs = ⊥
+IsOneList xs = Are IsList AreNone xs
 
 -- ---- data that end with a list
 
 abbrev pub IsRangeAndList : List DatumMeaning → Type 0
-IsRangeAndList (One (Long start) ∷ One (Long end) ∷ Many entries ∷ []) = Unit {0}
-IsRangeAndList xs = ⊥
+IsRangeAndList xs = Are (HasItem (OneOf field.Long)) (Are (HasItem (OneOf field.Long)) (Are IsList AreNone)) xs
 
 abbrev pub IsCountAndList : List DatumMeaning → Type 0
-IsCountAndList (One (Int count) ∷ Many entries ∷ []) = Unit {0}
-IsCountAndList xs = ⊥
+IsCountAndList xs = Are (HasItem (OneOf field.Int)) (Are IsList AreNone) xs
 
 abbrev pub AreTwoLists : List DatumMeaning → Type 0
-AreTwoLists (Many first ∷ Many second ∷ []) = Unit {0}
-AreTwoLists xs = ⊥
+AreTwoLists xs = Are IsList (Are IsList AreNone) xs
 
 abbrev pub IsRegion : List DatumMeaning → Type 0
-IsRegion (Elements region ∷ []) = Unit {0}
-IsRegion xs = ⊥
+IsRegion xs = Are (HasItem RegionOf) AreNone xs

@@ -5,6 +5,7 @@ ghost use Rattle.jdwp_layout.specs.declared.item.Field.TheVariants as held;
 ghost use Rattle.jdwp_layout.specs.Meanings.{Boolean, entry_meaning, scalar_meaning};
 ghost use Rattle.jdwp_answer.specs.Shaped.{Converted, HasFields, booleans, one_each, ones};
 ghost use Rattle.jdwp_answer.specs.ShapedLaws.{booleans_fit};
+ghost use Rattle.jdwp_answer.specs.Truths.{new_truths};
 
 use crate::fields::{Record, record_of};
 use crate::reply::Reply;
@@ -150,77 +151,13 @@ pub struct CapabilitiesNew {
 impl Record for CapabilitiesNew {
     ghost kinds = { replicate 32 held.Boolean };
 
-    ghost fields = { λ c. booleans (c.can_watch_field_modification ∷ c.can_watch_field_access ∷ c.can_get_bytecodes ∷ c.can_get_synthetic_attribute ∷ c.can_get_owned_monitor_info ∷ c.can_get_current_contended_monitor ∷ c.can_get_monitor_info ∷ c.can_redefine_classes ∷ c.can_add_method ∷ c.can_unrestrictedly_redefine_classes ∷ c.can_pop_frames ∷ c.can_use_instance_filters ∷ c.can_get_source_debug_extension ∷ c.can_request_vm_death_event ∷ c.can_set_default_stratum ∷ c.can_get_instance_info ∷ c.can_request_monitor_events ∷ c.can_get_monitor_frame_info ∷ c.can_use_source_name_filters ∷ c.can_get_constant_pool ∷ c.can_force_early_return ∷ c.reserved22 ∷ c.reserved23 ∷ c.reserved24 ∷ c.reserved25 ∷ c.reserved26 ∷ c.reserved27 ∷ c.reserved28 ∷ c.reserved29 ∷ c.reserved30 ∷ c.reserved31 ∷ c.reserved32 ∷ []) };
+    ghost fields = { λ c. booleans (new_truths c) };
 
     fn of_fields(_alloc: Global, scalars: Vec<Scalar>) -> Option<CapabilitiesNew> {
-        let [
-            can_watch_field_modification,
-            can_watch_field_access,
-            can_get_bytecodes,
-            can_get_synthetic_attribute,
-            can_get_owned_monitor_info,
-            can_get_current_contended_monitor,
-            can_get_monitor_info,
-            can_redefine_classes,
-            can_add_method,
-            can_unrestrictedly_redefine_classes,
-            can_pop_frames,
-            can_use_instance_filters,
-            can_get_source_debug_extension,
-            can_request_vm_death_event,
-            can_set_default_stratum,
-            can_get_instance_info,
-            can_request_monitor_events,
-            can_get_monitor_frame_info,
-            can_use_source_name_filters,
-            can_get_constant_pool,
-            can_force_early_return,
-            reserved22,
-            reserved23,
-            reserved24,
-            reserved25,
-            reserved26,
-            reserved27,
-            reserved28,
-            reserved29,
-            reserved30,
-            reserved31,
-            reserved32,
-        ] = truths_of::<32>(scalars)?;
-        Some(CapabilitiesNew {
-            can_watch_field_modification,
-            can_watch_field_access,
-            can_get_bytecodes,
-            can_get_synthetic_attribute,
-            can_get_owned_monitor_info,
-            can_get_current_contended_monitor,
-            can_get_monitor_info,
-            can_redefine_classes,
-            can_add_method,
-            can_unrestrictedly_redefine_classes,
-            can_pop_frames,
-            can_use_instance_filters,
-            can_get_source_debug_extension,
-            can_request_vm_death_event,
-            can_set_default_stratum,
-            can_get_instance_info,
-            can_request_monitor_events,
-            can_get_monitor_frame_info,
-            can_use_source_name_filters,
-            can_get_constant_pool,
-            can_force_early_return,
-            reserved22,
-            reserved23,
-            reserved24,
-            reserved25,
-            reserved26,
-            reserved27,
-            reserved28,
-            reserved29,
-            reserved30,
-            reserved31,
-            reserved32,
-        })
+        match truths_of::<32>(scalars) {
+            Some(truths) => Some(new_of(truths)),
+            None => None,
+        }
     }
 
     ghost has = { λ c. refl };
@@ -229,7 +166,7 @@ impl Record for CapabilitiesNew {
 impl Reply for CapabilitiesNew {
     ghost shape = { one_each (replicate 32 held.Boolean) };
 
-    ghost says = { λ c. ones (booleans (c.can_watch_field_modification ∷ c.can_watch_field_access ∷ c.can_get_bytecodes ∷ c.can_get_synthetic_attribute ∷ c.can_get_owned_monitor_info ∷ c.can_get_current_contended_monitor ∷ c.can_get_monitor_info ∷ c.can_redefine_classes ∷ c.can_add_method ∷ c.can_unrestrictedly_redefine_classes ∷ c.can_pop_frames ∷ c.can_use_instance_filters ∷ c.can_get_source_debug_extension ∷ c.can_request_vm_death_event ∷ c.can_set_default_stratum ∷ c.can_get_instance_info ∷ c.can_request_monitor_events ∷ c.can_get_monitor_frame_info ∷ c.can_use_source_name_filters ∷ c.can_get_constant_pool ∷ c.can_force_early_return ∷ c.reserved22 ∷ c.reserved23 ∷ c.reserved24 ∷ c.reserved25 ∷ c.reserved26 ∷ c.reserved27 ∷ c.reserved28 ∷ c.reserved29 ∷ c.reserved30 ∷ c.reserved31 ∷ c.reserved32 ∷ [])) };
+    ghost says = { λ c. ones (booleans (new_truths c)) };
 
     fn layout() -> &'static Layout {
         reply_of(VIRTUAL_MACHINE, CAPABILITIES_NEW)
@@ -239,7 +176,82 @@ impl Reply for CapabilitiesNew {
         record_of::<CapabilitiesNew>(alloc, items)
     }
 
-    ghost fits = { λ c. booleans_fit (c.can_watch_field_modification ∷ c.can_watch_field_access ∷ c.can_get_bytecodes ∷ c.can_get_synthetic_attribute ∷ c.can_get_owned_monitor_info ∷ c.can_get_current_contended_monitor ∷ c.can_get_monitor_info ∷ c.can_redefine_classes ∷ c.can_add_method ∷ c.can_unrestrictedly_redefine_classes ∷ c.can_pop_frames ∷ c.can_use_instance_filters ∷ c.can_get_source_debug_extension ∷ c.can_request_vm_death_event ∷ c.can_set_default_stratum ∷ c.can_get_instance_info ∷ c.can_request_monitor_events ∷ c.can_get_monitor_frame_info ∷ c.can_use_source_name_filters ∷ c.can_get_constant_pool ∷ c.can_force_early_return ∷ c.reserved22 ∷ c.reserved23 ∷ c.reserved24 ∷ c.reserved25 ∷ c.reserved26 ∷ c.reserved27 ∷ c.reserved28 ∷ c.reserved29 ∷ c.reserved30 ∷ c.reserved31 ∷ c.reserved32 ∷ []) };
+    ghost fits = { λ c. booleans_fit (new_truths c) };
+}
+
+/// What 32 truths say, in order.
+fn new_of(truths: [bool; 32]) -> CapabilitiesNew
+    requires { length truths ≡ 32 }
+    ensures { new_truths result ≡ truths }
+{
+    let [
+        can_watch_field_modification,
+        can_watch_field_access,
+        can_get_bytecodes,
+        can_get_synthetic_attribute,
+        can_get_owned_monitor_info,
+        can_get_current_contended_monitor,
+        can_get_monitor_info,
+        can_redefine_classes,
+        can_add_method,
+        can_unrestrictedly_redefine_classes,
+        can_pop_frames,
+        can_use_instance_filters,
+        can_get_source_debug_extension,
+        can_request_vm_death_event,
+        can_set_default_stratum,
+        can_get_instance_info,
+        can_request_monitor_events,
+        can_get_monitor_frame_info,
+        can_use_source_name_filters,
+        can_get_constant_pool,
+        can_force_early_return,
+        reserved22,
+        reserved23,
+        reserved24,
+        reserved25,
+        reserved26,
+        reserved27,
+        reserved28,
+        reserved29,
+        reserved30,
+        reserved31,
+        reserved32,
+    ] = truths;
+    CapabilitiesNew {
+        can_watch_field_modification,
+        can_watch_field_access,
+        can_get_bytecodes,
+        can_get_synthetic_attribute,
+        can_get_owned_monitor_info,
+        can_get_current_contended_monitor,
+        can_get_monitor_info,
+        can_redefine_classes,
+        can_add_method,
+        can_unrestrictedly_redefine_classes,
+        can_pop_frames,
+        can_use_instance_filters,
+        can_get_source_debug_extension,
+        can_request_vm_death_event,
+        can_set_default_stratum,
+        can_get_instance_info,
+        can_request_monitor_events,
+        can_get_monitor_frame_info,
+        can_use_source_name_filters,
+        can_get_constant_pool,
+        can_force_early_return,
+        reserved22,
+        reserved23,
+        reserved24,
+        reserved25,
+        reserved26,
+        reserved27,
+        reserved28,
+        reserved29,
+        reserved30,
+        reserved31,
+        reserved32,
+    }
 }
 
 /// The truths that so many booleans are; None where there are not so many, or one is something else.

@@ -3,13 +3,11 @@ ghost use Rattle.std.specs.Prelude.{◌≡◌, List, map, [], ◌∷◌, IfOk};
 ghost use Rattle.std.specs.List.{AllByRecursion};
 ghost use Rattle.jdwp_layout.specs.declared.item.Field.{Field};
 ghost use Rattle.jdwp_layout.specs.Shapes.{ListOf, Fields, shape as shape_of};
-ghost use Rattle.std.specs.String.{string_bytes};
-ghost use Rattle.jdwp_layout.specs.declared.item.Field.TheVariants as held;
-ghost use Rattle.jdwp_layout.specs.Grammar.{kind_of};
-ghost use Rattle.jdwp_layout.specs.Meanings.{ScalarMeaning, One, Text, datum_meaning, entry_meaning, entry_meanings, meanings, scalar_meaning};
-ghost use Rattle.jdwp_answer.specs.Shaped.{HasFields, HasItems, Converted, IsOne, AreOnes, IsOneList, one_each, one_list as list_alone, ones};
+ghost use Rattle.jdwp_layout.specs.Meanings.{ScalarMeaning, One, datum_meaning, entry_meaning, entry_meanings, meanings, scalar_meaning};
+ghost use Rattle.jdwp_answer.specs.Shaped.{HasFields, HasItems, Converted, IsOne, AreOnes, one_each, one_list as list_alone, ones};
 ghost use Rattle.jdwp_answer.specs.ShapedLaws.{all_have};
 
+use crate::items::only_item;
 use crate::reply::Reply;
 use jdwp_layout::{Datum, Layout, Scalar};
 use jdwp_wire::NoMemory;
@@ -48,31 +46,17 @@ impl<E: Listed> Reply for Vec<E> {
     }
 
     fn of_items(alloc: Global, items: Vec<Datum>) -> Result<Option<Vec<E>>, NoMemory> {
-        let Some(entries) = one_list(items) else {
-            return Ok(None);
-        };
-        match entries_of(alloc, entries)? {
-            Some(made) => Ok(Some(made)),
+        match only_item(items) {
+            Some(entries) => match entries_of(alloc, entries) {
+                Ok(Some(made)) => Ok(Some(made)),
+                Ok(None) => Ok(None),
+                Err(NoMemory) => Err(NoMemory),
+            },
             None => Ok(None),
         }
     }
 
     ghost fits = { λ v. (all_have E.kinds E.fields E.has v.items, tt) };
-}
-
-/// The list that data are; None where they are something else.
-#[tactic(auto, using(std::proofs::lemmas::Grind::common_steps))]
-fn one_list(mut items: Vec<Datum>) -> Option<Vec<Vec<Scalar>>>
-    ensures { Converted (λ entries. list_alone (entry_meanings entries.items)) IsOneList
-        (meanings items.items) result }
-{
-    let [Datum::Many(_)] = items.as_slice() else {
-        return None;
-    };
-    match items.pop() {
-        Some(Datum::Many(entries)) => Some(entries),
-        _ => unreachable!(),
-    }
 }
 
 /// The structs of the entries of a list; None where an entry is not of its fields.
@@ -138,17 +122,6 @@ fn one_of(item: Datum) -> Option<Scalar>
 {
     match item {
         Datum::One(scalar) => Some(scalar),
-        _ => None,
-    }
-}
-
-/// The text that a value is; None where it is something else.
-pub(crate) fn text_of(scalar: Scalar) -> Option<String>
-    ensures { Converted (λ t. Text (string_bytes t)) (λ x. kind_of x ≡ held.String)
-        (scalar_meaning scalar) result }
-{
-    match scalar {
-        Scalar::String(text) => Some(text),
         _ => None,
     }
 }

@@ -3,11 +3,13 @@
 
 mod capabilities;
 mod fields;
+mod items;
 mod lines;
 mod lists;
 mod method;
 mod reference_type;
 mod reply;
+mod rows;
 mod table;
 mod thread_reference;
 mod values;

@@ -2,13 +2,14 @@
 ghost use Rattle.std.specs.Prelude.{[], ◌∷◌, refl, map};
 ghost use Rattle.jdwp_layout.specs.Shapes.{OneOf, ListOf, Fields};
 ghost use Rattle.jdwp_layout.specs.declared.item.Field.TheVariants as held;
-ghost use Rattle.jdwp_layout.specs.Meanings.{One, Many, Int, Long, entry_meanings, meanings};
-ghost use Rattle.jdwp_answer.specs.Shaped.{Converted, IsCountAndList, IsRangeAndList};
+ghost use Rattle.jdwp_layout.specs.Meanings.{One, Many, Int, Long};
 ghost use Rattle.jdwp_answer.specs.ShapedLaws.{all_have};
 ghost use Rattle.jdwp_answer.specs.Tables.{line_kinds, line_fields, line_table, variable_kinds, variable_fields, variable_table, generic_variable_kinds, generic_variable_fields, generic_variable_table};
 
-use crate::fields::{Record, entries_of, text_of};
+use crate::fields::{Record, entries_of};
+use crate::items::items_of;
 use crate::reply::Reply;
+use crate::rows::row_of;
 use crate::table::reply_of;
 use jdwp_layout::numbers::{LINE_TABLE, METHOD, VARIABLE_TABLE, VARIABLE_TABLE_WITH_GENERIC};
 use jdwp_layout::{Datum, Layout, Scalar};
@@ -37,11 +38,12 @@ impl Reply for LineTable {
     }
 
     fn of_items(alloc: Global, items: Vec<Datum>) -> Result<Option<LineTable>, NoMemory> {
-        let Some((start, end, entries)) = range_and_list(items) else {
-            return Ok(None);
-        };
-        match entries_of(alloc, entries)? {
-            Some(lines) => Ok(Some(LineTable { start, end, lines })),
+        match items_of(items) {
+            Some((start, (end, (entries, ())))) => match entries_of(alloc, entries) {
+                Ok(Some(lines)) => Ok(Some(LineTable { start, end, lines })),
+                Ok(None) => Ok(None),
+                Err(NoMemory) => Err(NoMemory),
+            },
             None => Ok(None),
         }
     }
@@ -64,12 +66,9 @@ impl Record for LineEntry {
     ghost fields = { line_fields };
 
     fn of_fields(_alloc: Global, scalars: Vec<Scalar>) -> Option<LineEntry> {
-        match scalars.as_slice() {
-            [Scalar::Long(code_index), Scalar::Int(line)] => Some(LineEntry {
-                code_index: *code_index,
-                line: *line,
-            }),
-            _ => None,
+        match row_of(scalars) {
+            Some((code_index, (line, ()))) => Some(LineEntry { code_index, line }),
+            None => None,
         }
     }
 
@@ -95,11 +94,12 @@ impl Reply for VariableTable {
     }
 
     fn of_items(alloc: Global, items: Vec<Datum>) -> Result<Option<VariableTable>, NoMemory> {
-        let Some((arg_count, entries)) = count_and_list(items) else {
-            return Ok(None);
-        };
-        match entries_of(alloc, entries)? {
-            Some(slots) => Ok(Some(VariableTable { arg_count, slots })),
+        match items_of(items) {
+            Some((arg_count, (entries, ()))) => match entries_of(alloc, entries) {
+                Ok(Some(slots)) => Ok(Some(VariableTable { arg_count, slots })),
+                Ok(None) => Ok(None),
+                Err(NoMemory) => Err(NoMemory),
+            },
             None => Ok(None),
         }
     }
@@ -128,28 +128,16 @@ impl Record for VariableEntry {
     ghost fields = { variable_fields };
 
     fn of_fields(_alloc: Global, scalars: Vec<Scalar>) -> Option<VariableEntry> {
-        let Ok(scalars) = <[Scalar; 5]>::try_from(scalars) else {
-            return None;
-        };
-        let [code_index, name, signature, length, slot] = scalars;
-        let Scalar::Long(code_index) = code_index else {
-            return None;
-        };
-        let Scalar::Int(length) = length else {
-            return None;
-        };
-        let Scalar::Int(slot) = slot else {
-            return None;
-        };
-        let name = text_of(name)?;
-        let signature = text_of(signature)?;
-        Some(VariableEntry {
-            code_index,
-            name,
-            signature,
-            length,
-            slot,
-        })
+        match row_of(scalars) {
+            Some((code_index, (name, (signature, (length, (slot, ())))))) => Some(VariableEntry {
+                code_index,
+                name,
+                signature,
+                length,
+                slot,
+            }),
+            None => None,
+        }
     }
 
     ghost has = { λ v. refl };
@@ -177,11 +165,12 @@ impl Reply for GenericVariableTable {
         alloc: Global,
         items: Vec<Datum>,
     ) -> Result<Option<GenericVariableTable>, NoMemory> {
-        let Some((arg_count, entries)) = count_and_list(items) else {
-            return Ok(None);
-        };
-        match entries_of(alloc, entries)? {
-            Some(slots) => Ok(Some(GenericVariableTable { arg_count, slots })),
+        match items_of(items) {
+            Some((arg_count, (entries, ()))) => match entries_of(alloc, entries) {
+                Ok(Some(slots)) => Ok(Some(GenericVariableTable { arg_count, slots })),
+                Ok(None) => Ok(None),
+                Err(NoMemory) => Err(NoMemory),
+            },
             None => Ok(None),
         }
     }
@@ -212,69 +201,19 @@ impl Record for GenericVariable {
     ghost fields = { generic_variable_fields };
 
     fn of_fields(_alloc: Global, scalars: Vec<Scalar>) -> Option<GenericVariable> {
-        let Ok(scalars) = <[Scalar; 6]>::try_from(scalars) else {
-            return None;
-        };
-        let [code_index, name, signature, generic_signature, length, slot] = scalars;
-        let Scalar::Long(code_index) = code_index else {
-            return None;
-        };
-        let Scalar::Int(length) = length else {
-            return None;
-        };
-        let Scalar::Int(slot) = slot else {
-            return None;
-        };
-        let name = text_of(name)?;
-        let signature = text_of(signature)?;
-        let generic_signature = text_of(generic_signature)?;
-        Some(GenericVariable {
-            code_index,
-            name,
-            signature,
-            generic_signature,
-            length,
-            slot,
-        })
+        match row_of(scalars) {
+            Some((code_index, (name, (signature, (generic_signature, (length, (slot, ()))))))) =>
+                Some(GenericVariable {
+                    code_index,
+                    name,
+                    signature,
+                    generic_signature,
+                    length,
+                    slot,
+                }),
+            None => None,
+        }
     }
 
     ghost has = { λ v. refl };
-}
-
-/// The two longs and the list that data are; None where they are something else.
-#[tactic(auto, using(std::proofs::lemmas::Grind::common_steps))]
-fn range_and_list(mut items: Vec<Datum>) -> Option<(i64, i64, Vec<Vec<Scalar>>)>
-    ensures { Converted
-        (λ p. One (Long p.0) ∷ One (Long p.1) ∷ Many (entry_meanings p.2.items) ∷ [])
-        IsRangeAndList (meanings items.items) result }
-{
-    let [
-        Datum::One(Scalar::Long(start)),
-        Datum::One(Scalar::Long(end)),
-        Datum::Many(_),
-    ] = items.as_slice()
-    else {
-        return None;
-    };
-    let (start, end) = (*start, *end);
-    match items.pop() {
-        Some(Datum::Many(entries)) => Some((start, end, entries)),
-        _ => unreachable!(),
-    }
-}
-
-/// The int and the list that data are; None where they are something else.
-#[tactic(auto, using(std::proofs::lemmas::Grind::common_steps))]
-fn count_and_list(mut items: Vec<Datum>) -> Option<(i32, Vec<Vec<Scalar>>)>
-    ensures { Converted (λ p. One (Int p.0) ∷ Many (entry_meanings p.1.items) ∷ [])
-        IsCountAndList (meanings items.items) result }
-{
-    let [Datum::One(Scalar::Int(count)), Datum::Many(_)] = items.as_slice() else {
-        return None;
-    };
-    let count = *count;
-    match items.pop() {
-        Some(Datum::Many(entries)) => Some((count, entries)),
-        _ => unreachable!(),
-    }
 }

@@ -5,8 +5,9 @@ ghost use Rattle.jdwp_layout.specs.declared.item.Field.TheVariants as held;
 ghost use Rattle.jdwp_layout.specs.Shapes.{OneOf};
 ghost use Rattle.jdwp_layout.specs.Meanings.{One, Byte, Int, Text, ReferenceType, Method, OfField};
 
-use crate::fields::{Listed, Record, record_of, text_of};
+use crate::fields::{Listed, Record, record_of};
 use crate::reply::Reply;
+use crate::rows::row_of;
 use crate::table::reply_of;
 use jdwp_layout::numbers::{
     FIELDS, FIELDS_WITH_GENERIC, METHODS, METHODS_WITH_GENERIC, OBJECT_REFERENCE, OBJECT_TYPE,
@@ -37,24 +38,15 @@ impl Record for FieldEntry {
         ∷ Text (string_bytes f.signature) ∷ Int f.modifiers ∷ [] };
 
     fn of_fields(_alloc: Global, scalars: Vec<Scalar>) -> Option<FieldEntry> {
-        let Ok(scalars) = <[Scalar; 4]>::try_from(scalars) else {
-            return None;
-        };
-        let [id, name, signature, modifiers] = scalars;
-        let Scalar::FieldId(id) = id else {
-            return None;
-        };
-        let Scalar::Int(modifiers) = modifiers else {
-            return None;
-        };
-        let name = text_of(name)?;
-        let signature = text_of(signature)?;
-        Some(FieldEntry {
-            id,
-            name,
-            signature,
-            modifiers,
-        })
+        match row_of(scalars) {
+            Some((id, (name, (signature, (modifiers, ()))))) => Some(FieldEntry {
+                id,
+                name,
+                signature,
+                modifiers,
+            }),
+            None => None,
+        }
     }
 
     ghost has = { λ f. refl };
@@ -89,26 +81,18 @@ impl Record for GenericField {
         ∷ Int f.modifiers ∷ [] };
 
     fn of_fields(_alloc: Global, scalars: Vec<Scalar>) -> Option<GenericField> {
-        let Ok(scalars) = <[Scalar; 5]>::try_from(scalars) else {
-            return None;
-        };
-        let [id, name, signature, generic_signature, modifiers] = scalars;
-        let Scalar::FieldId(id) = id else {
-            return None;
-        };
-        let Scalar::Int(modifiers) = modifiers else {
-            return None;
-        };
-        let name = text_of(name)?;
-        let signature = text_of(signature)?;
-        let generic_signature = text_of(generic_signature)?;
-        Some(GenericField {
-            id,
-            name,
-            signature,
-            generic_signature,
-            modifiers,
-        })
+        match row_of(scalars) {
+            Some((id, (name, (signature, (generic_signature, (modifiers, ())))))) => Some(
+                GenericField {
+                    id,
+                    name,
+                    signature,
+                    generic_signature,
+                    modifiers,
+                },
+            ),
+            None => None,
+        }
     }
 
     ghost has = { λ f. refl };
@@ -140,24 +124,15 @@ impl Record for MethodEntry {
         ∷ Text (string_bytes m.signature) ∷ Int m.modifiers ∷ [] };
 
     fn of_fields(_alloc: Global, scalars: Vec<Scalar>) -> Option<MethodEntry> {
-        let Ok(scalars) = <[Scalar; 4]>::try_from(scalars) else {
-            return None;
-        };
-        let [id, name, signature, modifiers] = scalars;
-        let Scalar::MethodId(id) = id else {
-            return None;
-        };
-        let Scalar::Int(modifiers) = modifiers else {
-            return None;
-        };
-        let name = text_of(name)?;
-        let signature = text_of(signature)?;
-        Some(MethodEntry {
-            id,
-            name,
-            signature,
-            modifiers,
-        })
+        match row_of(scalars) {
+            Some((id, (name, (signature, (modifiers, ()))))) => Some(MethodEntry {
+                id,
+                name,
+                signature,
+                modifiers,
+            }),
+            None => None,
+        }
     }
 
     ghost has = { λ m. refl };
@@ -192,26 +167,18 @@ impl Record for GenericMethod {
         ∷ Int m.modifiers ∷ [] };
 
     fn of_fields(_alloc: Global, scalars: Vec<Scalar>) -> Option<GenericMethod> {
-        let Ok(scalars) = <[Scalar; 5]>::try_from(scalars) else {
-            return None;
-        };
-        let [id, name, signature, generic_signature, modifiers] = scalars;
-        let Scalar::MethodId(id) = id else {
-            return None;
-        };
-        let Scalar::Int(modifiers) = modifiers else {
-            return None;
-        };
-        let name = text_of(name)?;
-        let signature = text_of(signature)?;
-        let generic_signature = text_of(generic_signature)?;
-        Some(GenericMethod {
-            id,
-            name,
-            signature,
-            generic_signature,
-            modifiers,
-        })
+        match row_of(scalars) {
+            Some((id, (name, (signature, (generic_signature, (modifiers, ())))))) => Some(
+                GenericMethod {
+                    id,
+                    name,
+                    signature,
+                    generic_signature,
+                    modifiers,
+                },
+            ),
+            None => None,
+        }
     }
 
     ghost has = { λ m. refl };
@@ -239,16 +206,13 @@ impl Record for Signatures {
         ∷ [] };
 
     fn of_fields(_alloc: Global, scalars: Vec<Scalar>) -> Option<Signatures> {
-        let Ok(scalars) = <[Scalar; 2]>::try_from(scalars) else {
-            return None;
-        };
-        let [signature, generic_signature] = scalars;
-        let signature = text_of(signature)?;
-        let generic_signature = text_of(generic_signature)?;
-        Some(Signatures {
-            signature,
-            generic_signature,
-        })
+        match row_of(scalars) {
+            Some((signature, (generic_signature, ()))) => Some(Signatures {
+                signature,
+                generic_signature,
+            }),
+            None => None,
+        }
     }
 
     ghost has = { λ s. refl };
@@ -286,12 +250,9 @@ impl Record for TaggedType {
     ghost fields = { λ t. Byte t.tag ∷ ReferenceType t.id.0 ∷ [] };
 
     fn of_fields(_alloc: Global, scalars: Vec<Scalar>) -> Option<TaggedType> {
-        match scalars.as_slice() {
-            [Scalar::Byte(tag), Scalar::ReferenceTypeId(id)] => Some(TaggedType {
-                tag: *tag,
-                id: *id,
-            }),
-            _ => None,
+        match row_of(scalars) {
+            Some((tag, (id, ()))) => Some(TaggedType { tag, id }),
+            None => None,
         }
     }
 

@@ -6,6 +6,7 @@ ghost use Rattle.jdwp_layout.specs.Meanings.{One, Int, Frame, Located};
 
 use crate::fields::{Listed, Record, record_of};
 use crate::reply::Reply;
+use crate::rows::row_of;
 use crate::table::reply_of;
 use jdwp_layout::numbers::{FRAMES, THREAD_REFERENCE, THREAD_STATUS};
 use jdwp_layout::{Datum, Layout, Scalar};
@@ -28,12 +29,12 @@ impl Record for ThreadStatus {
     ghost fields = { λ s. Int s.thread_status ∷ Int s.suspend_status ∷ [] };
 
     fn of_fields(_alloc: Global, scalars: Vec<Scalar>) -> Option<ThreadStatus> {
-        match scalars.as_slice() {
-            [Scalar::Int(thread_status), Scalar::Int(suspend_status)] => Some(ThreadStatus {
-                thread_status: *thread_status,
-                suspend_status: *suspend_status,
+        match row_of(scalars) {
+            Some((thread_status, (suspend_status, ()))) => Some(ThreadStatus {
+                thread_status,
+                suspend_status,
             }),
-            _ => None,
+            None => None,
         }
     }
 
@@ -71,12 +72,9 @@ impl Record for FrameEntry {
     ghost fields = { λ f. Frame f.id.0 ∷ Located f.location ∷ [] };
 
     fn of_fields(_alloc: Global, scalars: Vec<Scalar>) -> Option<FrameEntry> {
-        match scalars.as_slice() {
-            [Scalar::FrameId(id), Scalar::Location(location)] => Some(FrameEntry {
-                id: *id,
-                location: *location,
-            }),
-            _ => None,
+        match row_of(scalars) {
+            Some((id, (location, ()))) => Some(FrameEntry { id, location }),
+            None => None,
         }
     }
 

@@ -5,8 +5,9 @@ ghost use Rattle.jdwp_layout.specs.declared.item.Field.TheVariants as held;
 ghost use Rattle.jdwp_layout.specs.Shapes.{OneOf};
 ghost use Rattle.jdwp_layout.specs.Meanings.{One, Boolean, Int, Text, Object, ReferenceType, Valued, Tagged};
 
-use crate::fields::{Listed, Record, record_of, text_of};
+use crate::fields::{Listed, Record, record_of};
 use crate::reply::Reply;
+use crate::rows::only;
 use crate::table::reply_of;
 use jdwp_layout::numbers::{
     ALL_THREADS, CLASS_TYPE, GET_FIELDS, GROUP_PARENT, INTERFACES, IS_COLLECTED, OBJECT_REFERENCE,
@@ -25,11 +26,7 @@ impl Record for String {
     ghost fields = { λ t. Text (string_bytes t) ∷ [] };
 
     fn of_fields(_alloc: Global, scalars: Vec<Scalar>) -> Option<String> {
-        let Ok(scalars) = <[Scalar; 1]>::try_from(scalars) else {
-            return None;
-        };
-        let [text] = scalars;
-        text_of(text)
+        only(scalars)
     }
 
     ghost has = { λ t. refl };
@@ -59,10 +56,7 @@ impl Record for i32 {
     ghost fields = { λ n. Int n ∷ [] };
 
     fn of_fields(_alloc: Global, scalars: Vec<Scalar>) -> Option<i32> {
-        match scalars.as_slice() {
-            [Scalar::Int(value)] => Some(*value),
-            _ => None,
-        }
+        only(scalars)
     }
 
     ghost has = { λ n. refl };
@@ -92,10 +86,7 @@ impl Record for bool {
     ghost fields = { λ b. Boolean b ∷ [] };
 
     fn of_fields(_alloc: Global, scalars: Vec<Scalar>) -> Option<bool> {
-        match scalars.as_slice() {
-            [Scalar::Boolean(value)] => Some(*value),
-            _ => None,
-        }
+        only(scalars)
     }
 
     ghost has = { λ b. refl };
@@ -125,10 +116,7 @@ impl Record for ObjectId {
     ghost fields = { λ o. Object o.0 ∷ [] };
 
     fn of_fields(_alloc: Global, scalars: Vec<Scalar>) -> Option<ObjectId> {
-        match scalars.as_slice() {
-            [Scalar::ObjectId(value)] => Some(*value),
-            _ => None,
-        }
+        only(scalars)
     }
 
     ghost has = { λ o. refl };
@@ -165,10 +153,7 @@ impl Record for ReferenceTypeId {
     ghost fields = { λ r. ReferenceType r.0 ∷ [] };
 
     fn of_fields(_alloc: Global, scalars: Vec<Scalar>) -> Option<ReferenceTypeId> {
-        match scalars.as_slice() {
-            [Scalar::ReferenceTypeId(value)] => Some(*value),
-            _ => None,
-        }
+        only(scalars)
     }
 
     ghost has = { λ r. refl };
@@ -205,10 +190,7 @@ impl Record for TaggedId {
     ghost fields = { λ t. Tagged t ∷ [] };
 
     fn of_fields(_alloc: Global, scalars: Vec<Scalar>) -> Option<TaggedId> {
-        match scalars.as_slice() {
-            [Scalar::TaggedId(value)] => Some(*value),
-            _ => None,
-        }
+        only(scalars)
     }
 
     ghost has = { λ t. refl };
@@ -238,10 +220,7 @@ impl Record for Value {
     ghost fields = { λ v. Valued v ∷ [] };
 
     fn of_fields(_alloc: Global, scalars: Vec<Scalar>) -> Option<Value> {
-        match scalars.as_slice() {
-            [Scalar::Value(value)] => Some(*value),
-            _ => None,
-        }
+        only(scalars)
     }
 
     ghost has = { λ v. refl };

@@ -5,8 +5,9 @@ ghost use Rattle.jdwp_layout.specs.declared.item.Field.TheVariants as held;
 ghost use Rattle.jdwp_layout.specs.Shapes.{OneOf};
 ghost use Rattle.jdwp_layout.specs.Meanings.{One, Byte, Int, Text, ReferenceType};
 
-use crate::fields::{Listed, Record, record_of, text_of};
+use crate::fields::{Listed, Record, record_of};
 use crate::reply::Reply;
+use crate::rows::row_of;
 use crate::table::reply_of;
 use jdwp_layout::numbers::{
     ALL_CLASSES, ALL_CLASSES_WITH_GENERIC, CLASSES_BY_SIGNATURE, ID_SIZES, VERSION, VIRTUAL_MACHINE,
@@ -38,26 +39,16 @@ impl Record for Version {
         ∷ Text (string_bytes v.vm_version) ∷ Text (string_bytes v.vm_name) ∷ [] };
 
     fn of_fields(_alloc: Global, scalars: Vec<Scalar>) -> Option<Version> {
-        let Ok(scalars) = <[Scalar; 5]>::try_from(scalars) else {
-            return None;
-        };
-        let [description, major, minor, vm_version, vm_name] = scalars;
-        let Scalar::Int(major) = major else {
-            return None;
-        };
-        let Scalar::Int(minor) = minor else {
-            return None;
-        };
-        let description = text_of(description)?;
-        let vm_version = text_of(vm_version)?;
-        let vm_name = text_of(vm_name)?;
-        Some(Version {
-            description,
-            major,
-            minor,
-            vm_version,
-            vm_name,
-        })
+        match row_of(scalars) {
+            Some((description, (major, (minor, (vm_version, (vm_name, ())))))) => Some(Version {
+                description,
+                major,
+                minor,
+                vm_version,
+                vm_name,
+            }),
+            None => None,
+        }
     }
 
     ghost has = { λ v. refl };
@@ -104,21 +95,15 @@ impl Record for SizesOfIds {
         ∷ Int s.frame ∷ [] };
 
     fn of_fields(_alloc: Global, scalars: Vec<Scalar>) -> Option<SizesOfIds> {
-        match scalars.as_slice() {
-            [
-                Scalar::Int(field),
-                Scalar::Int(method),
-                Scalar::Int(object),
-                Scalar::Int(reference_type),
-                Scalar::Int(frame),
-            ] => Some(SizesOfIds {
-                field: *field,
-                method: *method,
-                object: *object,
-                reference_type: *reference_type,
-                frame: *frame,
+        match row_of(scalars) {
+            Some((field, (method, (object, (reference_type, (frame, ())))))) => Some(SizesOfIds {
+                field,
+                method,
+                object,
+                reference_type,
+                frame,
             }),
-            _ => None,
+            None => None,
         }
     }
 
@@ -160,17 +145,9 @@ impl Record for ClassEntry {
     ghost fields = { λ c. Byte c.tag ∷ ReferenceType c.id.0 ∷ Int c.status ∷ [] };
 
     fn of_fields(_alloc: Global, scalars: Vec<Scalar>) -> Option<ClassEntry> {
-        match scalars.as_slice() {
-            [
-                Scalar::Byte(tag),
-                Scalar::ReferenceTypeId(id),
-                Scalar::Int(status),
-            ] => Some(ClassEntry {
-                tag: *tag,
-                id: *id,
-                status: *status,
-            }),
-            _ => None,
+        match row_of(scalars) {
+            Some((tag, (id, (status, ())))) => Some(ClassEntry { tag, id, status }),
+            None => None,
         }
     }
 
@@ -203,26 +180,15 @@ impl Record for NamedClass {
         ∷ Int c.status ∷ [] };
 
     fn of_fields(_alloc: Global, scalars: Vec<Scalar>) -> Option<NamedClass> {
-        let Ok(scalars) = <[Scalar; 4]>::try_from(scalars) else {
-            return None;
-        };
-        let [tag, id, signature, status] = scalars;
-        let Scalar::Byte(tag) = tag else {
-            return None;
-        };
-        let Scalar::ReferenceTypeId(id) = id else {
-            return None;
-        };
-        let Scalar::Int(status) = status else {
-            return None;
-        };
-        let signature = text_of(signature)?;
-        Some(NamedClass {
-            tag,
-            id,
-            signature,
-            status,
-        })
+        match row_of(scalars) {
+            Some((tag, (id, (signature, (status, ()))))) => Some(NamedClass {
+                tag,
+                id,
+                signature,
+                status,
+            }),
+            None => None,
+        }
     }
 
     ghost has = { λ c. refl };
@@ -256,28 +222,18 @@ impl Record for GenericClass {
         ∷ Text (string_bytes c.generic_signature) ∷ Int c.status ∷ [] };
 
     fn of_fields(_alloc: Global, scalars: Vec<Scalar>) -> Option<GenericClass> {
-        let Ok(scalars) = <[Scalar; 5]>::try_from(scalars) else {
-            return None;
-        };
-        let [tag, id, signature, generic_signature, status] = scalars;
-        let Scalar::Byte(tag) = tag else {
-            return None;
-        };
-        let Scalar::ReferenceTypeId(id) = id else {
-            return None;
-        };
-        let Scalar::Int(status) = status else {
-            return None;
-        };
-        let signature = text_of(signature)?;
-        let generic_signature = text_of(generic_signature)?;
-        Some(GenericClass {
-            tag,
-            id,
-            signature,
-            generic_signature,
-            status,
-        })
+        match row_of(scalars) {
+            Some((tag, (id, (signature, (generic_signature, (status, ())))))) => Some(
+                GenericClass {
+                    tag,
+                    id,
+                    signature,
+                    generic_signature,
+                    status,
+                },
+            ),
+            None => None,
+        }
     }
 
     ghost has = { λ c. refl };
