@@ -205,6 +205,9 @@ all_known parts bytes a none st = All-weaker (IsHeld a) (λ p. end_of p ≤ leng
 pub none_kept : (a : Assembly) → (0 < btree_map_len a.ahead → ⊥) → (q : ℕ) → kept_at a q ≡ None
 none_kept a none q = ap (λ (es : List (ℕ × Piece)). lookup (is_at (nat_cmp q)) es) (nil_from_length a.ahead.entries (omega arith))
 
+pub nothing_kept : (parts : List Part) (bytes : List ℕ) (a : Assembly) → (0 < btree_map_len a.ahead → ⊥) → Stands parts bytes a → IsAssembled parts bytes
+nothing_kept parts bytes a none st = assembled parts bytes a (λ q k e. let nothing : None ≡ Some k = sym (none_kept a none q) ∙ e in cc) st
+
 some_is : (k : Piece) → IsSome (Some k)
 some_is k = search rules
 

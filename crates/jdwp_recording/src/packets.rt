@@ -117,18 +117,30 @@ fn datagram_of(internet: &[u8], missing: usize) -> Option<Datagram<'_>> {
 fn datagram_of_4(internet: &[u8], missing: usize) -> Option<Datagram<'_>> {
     let (first, _) = internet.split_first()?;
     let header = usize::from(*first & 15) * 4;
-    let length = usize::from(short_at(Order::Big, internet, 2)?);
-    let fragment = short_at(Order::Big, internet, 6)?;
-    if fragment & 0x3fff != 0 || *internet.get(9)? != 6 || header < 20 {
+    let (Some(length), Some(fragment), Some(protocol)) = (
+        short_at(Order::Big, internet, 2),
+        short_at(Order::Big, internet, 6),
+        internet.get(9),
+    ) else {
+        return None;
+    };
+    if fragment & 0x3fff != 0 || *protocol != 6 || header < 20 {
         return None;
     }
-    let (whole, missing) = within(internet, length, missing);
-    Some(Datagram {
-        from: Address::V4(word_at(Order::Big, internet, 12)?),
-        to: Address::V4(word_at(Order::Big, internet, 16)?),
-        tcp: whole.get(header..)?,
-        missing,
-    })
+    let (whole, missing) = within(internet, usize::from(length), missing);
+    match (
+        word_at(Order::Big, internet, 12),
+        word_at(Order::Big, internet, 16),
+        whole.get(header..),
+    ) {
+        (Some(from), Some(to), Some(tcp)) => Some(Datagram {
+            from: Address::V4(from),
+            to: Address::V4(to),
+            tcp,
+            missing,
+        }),
+        _ => None,
+    }
 }
 
 /// The TCP in a packet of version 6 (RFC 8200, 3).
@@ -136,12 +148,20 @@ fn datagram_of_6(internet: &[u8], missing: usize) -> Option<Datagram<'_>> {
     let length = usize::from(short_at(Order::Big, internet, 4)?);
     let length = if length == 0 { 0 } else { length + 40 };
     let (whole, missing) = within(internet, length, missing);
-    Some(Datagram {
-        from: address_at(internet, 8)?,
-        to: address_at(internet, 24)?,
-        tcp: upper_layer(*internet.get(6)?, whole.get(40..)?)?,
-        missing,
-    })
+    match (
+        address_at(internet, 8),
+        address_at(internet, 24),
+        internet.get(6),
+        whole.get(40..),
+    ) {
+        (Some(from), Some(to), Some(kind), Some(rest)) => Some(Datagram {
+            from,
+            to,
+            tcp: upper_layer(*kind, rest)?,
+            missing,
+        }),
+        _ => None,
+    }
 }
 
 /// The bytes of a packet of this length, and how many are missing. A length of 0 is one that the system left to its hardware; then all that
@@ -159,12 +179,17 @@ fn within(internet: &[u8], length: usize, missing: usize) -> (&[u8], usize) {
 /// The address of version 6 at a place.
 fn address_at(internet: &[u8], place: usize) -> Option<Address> {
     let address = internet.get(place..)?;
-    Some(Address::V6(
-        word_at(Order::Big, address, 0)?,
-        word_at(Order::Big, address, 4)?,
-        word_at(Order::Big, address, 8)?,
-        word_at(Order::Big, address, 12)?,
-    ))
+    match (
+        word_at(Order::Big, address, 0),
+        word_at(Order::Big, address, 4),
+        word_at(Order::Big, address, 8),
+        word_at(Order::Big, address, 12),
+    ) {
+        (Some(first), Some(second), Some(third), Some(fourth)) => {
+            Some(Address::V6(first, second, third, fourth))
+        }
+        _ => None,
+    }
 }
 
 /// The TCP behind up to seven extension headers, the first header being of this kind (RFC 8200, 4).
@@ -187,31 +212,40 @@ fn upper_layer(mut kind: u8, mut rest: &[u8]) -> Option<&[u8]> {
 /// The segment in a datagram (RFC 9293, 3.1).
 fn segment_in<'a>(packet: usize, datagram: &Datagram<'a>) -> Option<Segment<'a>> {
     let tcp = datagram.tcp;
-    let header = usize::from(*tcp.get(12)? >> 4) * 4;
-    let flags = *tcp.get(13)?;
-    if flags & 4 != 0 || header < 20 {
+    let (Some(offset), Some(flags)) = (tcp.get(12), tcp.get(13)) else {
+        return None;
+    };
+    let header = usize::from(*offset >> 4) * 4;
+    if *flags & 4 != 0 || header < 20 {
         return None;
     }
-    let begins = flags & 2 != 0;
-    let sequence = word_at(Order::Big, tcp, 4)?;
+    let (Some(from), Some(to), Some(sequence), Some(payload)) = (
+        short_at(Order::Big, tcp, 0),
+        short_at(Order::Big, tcp, 2),
+        word_at(Order::Big, tcp, 4),
+        tcp.get(header..),
+    ) else {
+        return None;
+    };
+    let begins = *flags & 2 != 0;
     Some(Segment {
         packet,
         from: Endpoint {
             address: datagram.from,
-            port: short_at(Order::Big, tcp, 0)?,
+            port: from,
         },
         to: Endpoint {
             address: datagram.to,
-            port: short_at(Order::Big, tcp, 2)?,
+            port: to,
         },
         begins,
-        acknowledges: flags & 16 != 0,
+        acknowledges: *flags & 16 != 0,
         sequence: if begins {
             sequence.wrapping_add(1)
         } else {
             sequence
         },
-        payload: tcp.get(header..)?,
+        payload,
         missing: datagram.missing,
     })
 }

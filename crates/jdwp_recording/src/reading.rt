@@ -97,15 +97,21 @@ impl<'a> Packets<'a> {
     /// The packet of the next record of pcap.
     fn record(&mut self, order: Order, link: u32) -> Result<Packet<'a>, RecordingFault> {
         let cut = RecordingFault::CutOff(self.count);
-        let recorded = word_at(order, self.rest, 8).ok_or(cut)? as usize;
-        let length = word_at(order, self.rest, 12).ok_or(cut)? as usize;
-        let behind = self.rest.get(16..).ok_or(cut)?;
-        let bytes = behind.get(..recorded).ok_or(cut)?;
-        self.rest = &behind[recorded..];
+        let (Some(recorded), Some(length), Some(behind)) = (
+            word_at(order, self.rest, 8),
+            word_at(order, self.rest, 12),
+            self.rest.get(16..),
+        ) else {
+            return Err(cut);
+        };
+        let Some(bytes) = behind.get(..recorded as usize) else {
+            return Err(cut);
+        };
+        self.rest = &behind[recorded as usize..];
         Ok(Packet {
             link,
             bytes,
-            missing: length.saturating_sub(recorded),
+            missing: length.saturating_sub(recorded) as usize,
         })
     }
 
@@ -133,12 +139,19 @@ impl<'a> Packets<'a> {
     fn take_block(&mut self) -> Result<Block<'a>, RecordingFault> {
         let order = self.note_section()?;
         let cut = RecordingFault::CutOff(self.count);
-        let kind = word_at(order, self.rest, 0).ok_or(cut)?;
-        let length = word_at(order, self.rest, 4).ok_or(cut)? as usize;
+        let (Some(kind), Some(length)) = (
+            word_at(order, self.rest, 0),
+            word_at(order, self.rest, 4),
+        ) else {
+            return Err(cut);
+        };
+        let length = length as usize;
         if length < 12 {
             return Err(RecordingFault::Damaged(self.count));
         }
-        let block = self.rest.get(..length).ok_or(cut)?;
+        let Some(block) = self.rest.get(..length) else {
+            return Err(cut);
+        };
         self.rest = &self.rest[length..];
         Ok(Block {
             order,
@@ -163,8 +176,11 @@ impl<'a> Packets<'a> {
     /// Notes an interface that a block describes.
     fn note_interface(&mut self, order: Order, body: &[u8]) -> Result<(), RecordingFault> {
         let damaged = RecordingFault::Damaged(self.count);
-        let link = u32::from(short_at(order, body, 0).ok_or(damaged)?);
-        let snap_length = word_at(order, body, 4).ok_or(damaged)?;
+        let (Some(link), Some(snap_length)) = (short_at(order, body, 0), word_at(order, body, 4))
+        else {
+            return Err(damaged);
+        };
+        let link = u32::from(link);
         self.interfaces.push(Interface { link, snap_length })?;
         Ok(())
     }
@@ -184,8 +200,14 @@ impl<'a> Packets<'a> {
 
     /// The packet of a Simple Packet Block, which is of the first interface.
     fn simple_packet(&self, order: Order, body: &'a [u8]) -> Option<Packet<'a>> {
-        let interface = self.interfaces.first()?;
-        let length = word_at(order, body, 0)? as usize;
+        let (Some(interface), Some(length), Some(behind)) = (
+            self.interfaces.first(),
+            word_at(order, body, 0),
+            body.get(4..),
+        ) else {
+            return None;
+        };
+        let length = length as usize;
         let limit = interface.snap_length as usize;
         let recorded = if limit == 0 {
             length
@@ -194,7 +216,7 @@ impl<'a> Packets<'a> {
         };
         Some(Packet {
             link: interface.link,
-            bytes: body.get(4..)?.get(..recorded)?,
+            bytes: behind.get(..recorded)?,
             missing: length - recorded,
         })
     }
@@ -202,12 +224,17 @@ impl<'a> Packets<'a> {
     /// The packet of an Enhanced Packet Block.
     fn enhanced_packet(&self, order: Order, body: &'a [u8]) -> Option<Packet<'a>> {
         let interface = self.interfaces.get(word_at(order, body, 0)? as usize)?;
-        let recorded = word_at(order, body, 12)? as usize;
-        let length = word_at(order, body, 16)? as usize;
+        let (Some(recorded), Some(length), Some(behind)) = (
+            word_at(order, body, 12),
+            word_at(order, body, 16),
+            body.get(20..),
+        ) else {
+            return None;
+        };
         Some(Packet {
             link: interface.link,
-            bytes: body.get(20..)?.get(..recorded)?,
-            missing: length.saturating_sub(recorded),
+            bytes: behind.get(..recorded as usize)?,
+            missing: length.saturating_sub(recorded) as usize,
         })
     }
 }

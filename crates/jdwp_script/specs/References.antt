@@ -253,13 +253,15 @@ prepared_by (Again k) = []
 abbrev pub prepared : List ThreadPart → List ℕ
 prepared threads = flat_map (λ t. flat_map prepared_by t.steps) threads
 
--- what is known being so much: no thread may be started twice, no class prepared twice, and a thread has to live from
--- the beginning
+-- no thread may be started twice, no class prepared twice, and a thread has to live from the beginning
+abbrev pub starts_lost : List ThreadPart → Bool
+starts_lost threads = is_twice (started threads) || (is_twice (prepared threads) || (length (living threads) == 0))
+
+-- something stands where it may not, what is known being so much
 abbrev pub is_lost_among : Known → ScriptPart → Bool
 is_lost_among k s =
     groups_lost nothing s.groups || (types_lost nothing s.classes || (list_any (class_lost k) s.classes || (list_any (object_lost k) s.objects || (list_any (thread_lost k) s.threads
-    || (list_any module_lost s.modules || (list_any (group_class_lost k) s.groups || (list_any (thread_class_lost k) s.threads
-    || (is_twice (started s.threads) || (is_twice (prepared s.threads) || (length (living s.threads) == 0))))))))))
+    || (list_any module_lost s.modules || (list_any (group_class_lost k) s.groups || (list_any (thread_class_lost k) s.threads || starts_lost s.threads)))))))
 
 abbrev pub has_bad_reference : ScriptPart → Bool
 has_bad_reference s = is_lost_among (known_in s) s

@@ -13,22 +13,44 @@ use std::collections::BTreeSet;
 
 /// Which id stands twice, if one does: the first of its kind that has stood before.
 pub(crate) fn twice_detail(alloc: Global, script: &Script) -> Result<Detail, NoMemory> {
-    let found = if let Some(id) = second_id(alloc, &value_ids(alloc, script)?)? {
-        Cause::Twice(IdKind::Shared, id)
-    } else if let Some(id) = second_id(alloc, &shared_ids(alloc, script)?)? {
-        Cause::Twice(IdKind::Module, id)
-    } else if let Some(id) = second_id(alloc, &Ids.listed(alloc, &script.classes)?)? {
-        Cause::Twice(IdKind::Class, id)
-    } else if let Some(id) = second_id(alloc, &MethodIds.listed(alloc, &script.classes)?)? {
-        Cause::Twice(IdKind::Method, id)
-    } else if let Some(id) = second_id(alloc, &FieldIds.listed(alloc, &script.classes)?)? {
-        Cause::Twice(IdKind::Field, id)
-    } else if let Some(id) = second_id(alloc, &FrameIds.listed(alloc, &script.threads)?)? {
-        Cause::Twice(IdKind::Frame, id)
-    } else {
-        Cause::Unsaid
-    };
-    Ok(Detail::of(found))
+    for kind in [
+        IdKind::Shared,
+        IdKind::Module,
+        IdKind::Class,
+        IdKind::Method,
+        IdKind::Field,
+        IdKind::Frame,
+    ] {
+        if let Some(id) = second_listed(alloc, ids_of(alloc, script, kind))? {
+            return Ok(Detail::of(Cause::Twice(kind, id)));
+        }
+    }
+    Ok(Detail::of(Cause::Unsaid))
+}
+
+/// The ids of a kind that the script lists; of modules those of all with which a module may share no id.
+fn ids_of(alloc: Global, script: &Script, kind: IdKind) -> Result<Vec<u64>, NoMemory> {
+    match kind {
+        IdKind::Shared | IdKind::Group | IdKind::Object | IdKind::Thread => {
+            value_ids(alloc, script)
+        }
+        IdKind::Module => shared_ids(alloc, script),
+        IdKind::Class => Ids.listed(alloc, &script.classes),
+        IdKind::Method => MethodIds.listed(alloc, &script.classes),
+        IdKind::Field => FieldIds.listed(alloc, &script.classes),
+        IdKind::Frame => FrameIds.listed(alloc, &script.threads),
+    }
+}
+
+/// The first of the ids that were listed that has stood before.
+pub(crate) fn second_listed(
+    alloc: Global,
+    listed: Result<Vec<u64>, NoMemory>,
+) -> Result<Option<u64>, NoMemory> {
+    match listed {
+        Ok(ids) => second_id(alloc, &ids),
+        Err(fault) => Err(fault),
+    }
 }
 
 /// The first of these ids that has stood before.

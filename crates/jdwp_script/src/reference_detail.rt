@@ -1,7 +1,7 @@
 //! Which reference of a script is bad, and where.
 use crate::detail::{Cause, Detail, IdKind, Path};
 use crate::gather::Gather;
-use crate::id_detail::second_id;
+use crate::id_detail::{second_id, second_listed};
 use crate::ids::{PreparedIds, StartedIds};
 use crate::judge::{Judge, first_bad};
 use crate::known::KnownIds;
@@ -17,6 +17,11 @@ use std::collections::BTreeSet;
 /// Which reference is bad, and where.
 pub(crate) fn reference_detail(alloc: Global, script: &Script) -> Result<Detail, NoMemory> {
     let known = KnownIds::of(alloc, script)?;
+    detail_among(alloc, &known, script)
+}
+
+/// Which reference is bad, and where, these ids being known.
+fn detail_among(alloc: Global, known: &KnownIds, script: &Script) -> Result<Detail, NoMemory> {
     if let Some(found) = group_detail(alloc, &script.groups)? {
         return Ok(found);
     }
@@ -24,24 +29,24 @@ pub(crate) fn reference_detail(alloc: Global, script: &Script) -> Result<Detail,
         return Ok(found);
     }
     let root = Path::ROOT;
-    if let Some(place) = first_bad(&known, &script.classes) {
+    if let Some(place) = first_bad(known, &script.classes) {
         let path = root.to(Member::Classes, place);
-        return Ok(class_detail(&known, &script.classes[place], path));
+        return Ok(class_detail(known, &script.classes[place], path));
     }
-    if let Some(place) = first_bad(&known, &script.objects) {
+    if let Some(place) = first_bad(known, &script.objects) {
         let path = root.to(Member::Objects, place);
-        return object_detail(alloc, &known, &script.objects[place], path);
+        return object_detail(alloc, known, &script.objects[place], path);
     }
-    if let Some(found) = thread_detail(alloc, &known, &script.threads)? {
+    if let Some(found) = thread_detail(alloc, known, &script.threads)? {
         return Ok(found);
     }
-    if let Some(place) = first_bad(&known, &script.modules) {
+    if let Some(place) = first_bad(known, &script.modules) {
         return Ok(Detail {
             cause: Cause::Zero(IdKind::Module),
             path: root.to(Member::Modules, place),
         });
     }
-    if let Some(found) = class_of_detail(&known, script) {
+    if let Some(found) = class_of_detail(known, script) {
         return Ok(found);
     }
     Ok(Detail::of(start_cause(alloc, &script.threads)?))
@@ -389,10 +394,10 @@ fn place_cause(known: &KnownIds, place: &Place) -> Cause {
 
 /// What begins a second time, or that no thread lives at the beginning.
 fn start_cause(alloc: Global, threads: &[Thread]) -> Result<Cause, NoMemory> {
-    if let Some(id) = second_id(alloc, &StartedIds.listed(alloc, threads)?)? {
+    if let Some(id) = second_listed(alloc, StartedIds.listed(alloc, threads))? {
         return Ok(Cause::Again(IdKind::Thread, id));
     }
-    match second_id(alloc, &PreparedIds.listed(alloc, threads)?)? {
+    match second_listed(alloc, PreparedIds.listed(alloc, threads))? {
         Some(id) => Ok(Cause::Again(IdKind::Class, id)),
         None => Ok(Cause::NobodyLives),
     }

@@ -10,7 +10,7 @@ ghost use Rattle.jdwp_script.specs.Limits.{if_there};
 ghost use Rattle.jdwp_script.specs.Parts.{GroupPart, ThreadPart, FieldPart, MethodPart, ClassPart, ElementsPart, ObjectPart, CallPart, ModulePart};
 ghost use Rattle.jdwp_script.specs.Meanings.{group_part, field_part, method_part, class_part, elements_part, object_part, call_part, step_part, thread_part, module_part, script_part};
 ghost use Rattle.jdwp_script.specs.IdSets.{has, known_ids};
-ghost use Rattle.jdwp_script.specs.References.{nothing, is_lost, literal_lost, groups_lost, types_lost, field_lost, lines_lost, method_lost, class_lost, field_value_lost, same_field, field_twice, elements_lost, object_lost, is_past, slot_value_lost, same_slot, slot_twice, call_lost, place_lost, step_lost, frames_left, steps_lost, thread_lost, module_lost, group_class_lost, thread_class_lost, is_lost_among, has_bad_reference};
+ghost use Rattle.jdwp_script.specs.References.{nothing, is_lost, literal_lost, groups_lost, types_lost, field_lost, lines_lost, method_lost, class_lost, field_value_lost, same_field, field_twice, elements_lost, object_lost, is_past, slot_value_lost, same_slot, slot_twice, call_lost, place_lost, step_lost, frames_left, steps_lost, thread_lost, module_lost, group_class_lost, thread_class_lost, starts_lost, is_lost_among, has_bad_reference};
 
 use crate::gather::Gather;
 use crate::ids::{PreparedIds, StartedIds};
@@ -452,6 +452,17 @@ impl Judge<Thread> for KnownIds {
     }
 }
 
+/// Whether a thread is started or a class prepared a second time, or no thread lives at the beginning.
+fn starts_lost(alloc: Global, threads: &[Thread]) -> Result<bool, NoMemory>
+    ensures { IfOk result (λ lost. lost ≡ starts_lost (map thread_part threads.now)) }
+{
+    Ok(
+        StartedIds.has_twice(alloc, threads)?
+            || PreparedIds.has_twice(alloc, threads)?
+            || living(alloc, threads)? == 0,
+    )
+}
+
 /// Whether something stands where it may not, these ids being known.
 fn is_lost_among(alloc: Global, known: &KnownIds, script: &Script) -> Result<bool, NoMemory>
     ensures { IfOk result (λ lost. lost ≡ is_lost_among (known_ids known.now)
@@ -466,9 +477,7 @@ fn is_lost_among(alloc: Global, known: &KnownIds, script: &Script) -> Result<boo
             || known.has_bad(&script.modules)
             || known.has_bad(&script.groups)
             || known.has_bad(&script.threads)
-            || StartedIds.has_twice(alloc, &script.threads)?
-            || PreparedIds.has_twice(alloc, &script.threads)?
-            || living(alloc, &script.threads)? == 0,
+            || starts_lost(alloc, &script.threads)?,
     )
 }
 

@@ -40,19 +40,29 @@ fn found_detail(
     limits: &Limits,
     fault: ScriptFault,
 ) -> Result<Detail, NoMemory> {
-    let Ok(value) = Value::from_str(alloc, text) else {
-        return Ok(Detail::UNSAID);
-    };
+    match Value::from_str(alloc, text) {
+        Ok(value) => value_detail(alloc, &value, limits, fault),
+        Err(_) => Ok(Detail::UNSAID),
+    }
+}
+
+/// What is known of a fault of the script that the value describes.
+fn value_detail(
+    alloc: Global,
+    value: &Value,
+    limits: &Limits,
+    fault: ScriptFault,
+) -> Result<Detail, NoMemory> {
     if let ScriptFault::Missing(member) = fault {
         return Ok(Detail {
             cause: Cause::Unsaid,
-            path: missing_path(alloc, &value, member)?,
+            path: missing_path(alloc, value, member)?,
         });
     }
-    let Ok(script) = script(alloc, &value) else {
-        return Ok(Detail::UNSAID);
-    };
-    judged_detail(alloc, &script, limits, fault)
+    match script(alloc, value) {
+        Ok(script) => judged_detail(alloc, &script, limits, fault),
+        Err(_) => Ok(Detail::UNSAID),
+    }
 }
 
 /// What is known of a fault of a script that has all its members.

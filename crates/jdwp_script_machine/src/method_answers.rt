@@ -112,19 +112,16 @@ fn method_answer_to(
     ensures memory { IfErr result (λ _.
         IsTrue (takes_memory (method_answer_to question (method_part method.now)))) }
 {
-    let args = Datum::One(Scalar::Int(method.args));
     match question {
         MethodQuestion::LineTable => line_table(alloc, method),
         MethodQuestion::VariableTable => {
-            of_pair(alloc, args, VariableEntry.tell_each(alloc, &method.slots)?)
+            let slots = VariableEntry.tell_each(alloc, &method.slots)?;
+            of_pair(alloc, Datum::One(Scalar::Int(method.args)), slots)
         }
         MethodQuestion::IsObsolete => of_scalar(alloc, Scalar::Boolean(false)),
         MethodQuestion::GenericVariableTable => {
-            of_pair(
-                alloc,
-                args,
-                GenericVariableEntry.tell_each(alloc, &method.slots)?,
-            )
+            let slots = GenericVariableEntry.tell_each(alloc, &method.slots)?;
+            of_pair(alloc, Datum::One(Scalar::Int(method.args)), slots)
         }
     }
 }
