@@ -19,8 +19,6 @@ use milunovesk::client::Options;
 use milunovesk::{Order, connect};
 use repeated::{ByClient, ByHand, Classes, measure};
 use std::env;
-use std::net::Net;
-use std::rt::Clock;
 
 fn main(rt: HostRuntime) -> anyhow::Result<()> {
     let words = env::args(&rt)?.collect::<Vec<String>>(rt.alloc())?;
@@ -32,11 +30,7 @@ fn main(rt: HostRuntime) -> anyhow::Result<()> {
 }
 
 /// Does what a word says, with the number or the address behind it.
-fn run(
-    rt: &(impl Print + Input + AllocGlobal + Clock + Net),
-    way: &str,
-    given: &str,
-) -> anyhow::Result<()> {
+fn run(rt: &HostRuntime, way: &str, given: &str) -> anyhow::Result<()> {
     let alloc = rt.alloc();
     match way {
         "client" => ask_by_client(rt, given),
@@ -56,19 +50,13 @@ fn tell(rt: &impl Print, answered: u64) -> anyhow::Result<()> {
 }
 
 /// Asks a target at an address by a client.
-fn ask_by_client(
-    rt: &(impl Print + Input + AllocGlobal + Clock + Net),
-    address: &str,
-) -> anyhow::Result<()> {
+fn ask_by_client(rt: &HostRuntime, address: &str) -> anyhow::Result<()> {
     let client = connect(rt.alloc(), rt, rt, address, Options::new(Order::Apart))?;
     measure(rt, ByClient::begin(rt.alloc(), client)?)
 }
 
 /// Asks a target at an address by a debugger whose bytes are moved by hand.
-fn ask_by_hand(
-    rt: &(impl Print + Input + AllocGlobal + Clock + Net),
-    address: &str,
-) -> anyhow::Result<()> {
+fn ask_by_hand(rt: &HostRuntime, address: &str) -> anyhow::Result<()> {
     let client = connect(rt.alloc(), rt, rt, address, Options::new(Order::Apart))?;
     measure(rt, ByHand::begin(rt.alloc(), client.into_pipe())?)
 }
