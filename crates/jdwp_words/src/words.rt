@@ -16,8 +16,8 @@ use jdwp_debuggee::Settings;
 use jdwp_debugger::Order;
 use jdwp_machine::Profile;
 use jdwp_program::{
-    Attach, Between, CaptureFile, Draw, Emptied, Fault, Pair, Peer, Record, ServeScript,
-    SessionFiles, VERSION, Words, decimal, is_all, limits, order, profile, table_of,
+    Attach, Between, CaptureFile, Draw, Fault, Pair, Peer, Record, ServeScript, SessionFiles,
+    VERSION, Words, decimal, is_all, limits, order, profile, table_of,
 };
 use jdwp_show::Table;
 use jdwp_wire::Limits;
@@ -240,7 +240,10 @@ pub fn read<'a, S: AsStr>(alloc: Global, words: &'a [S]) -> Result<Words<'a>, Fa
     let said = say(alloc, words)?;
     match said.emptied() {
         None => Ok(said),
-        Some(emptied) => Err(emptying(alloc, emptied, name_of(&said))),
+        Some(emptied) => {
+            let refusal = Refusal::Empties(name_of(&said), emptied.option, emptied.file);
+            Err(fault_of(alloc, refusal))
+        },
     }
 }
 
@@ -249,7 +252,10 @@ fn say<'a, S: AsStr>(alloc: Global, words: &'a [S]) -> Result<Words<'a>, Fault<'
     ensures { IfOk result (RunsPlanOnlyWhere (commands.runs_plan S.text words.now)) }
 {
     match command(alloc)?.try_get_matches_from(words) {
-        Ok(matches) => read_matches(alloc, &matches, words),
+        Ok(matches) => match read_matches(&matches, words) {
+            Ok(said) => Ok(said),
+            Err(refusal) => Err(fault_of(alloc, refusal)),
+        },
         Err(error) if error.kind() == ErrorKind::DisplayVersion => Ok(Words::Version),
         Err(error) => Err(refused(alloc, &error)),
     }
@@ -269,53 +275,42 @@ fn name_of(words: &Words<'_>) -> Name {
     }
 }
 
-/// A file is written to that is read, or written to for something else.
-fn emptying<'a>(alloc: Global, emptied: Emptied, of: Name) -> Fault<'a> {
-    match emptying_message(alloc, emptied) {
-        Ok(message) => refusal(alloc, of, message.as_str()),
-        Err(_) => Fault::NoMemory,
-    }
-}
-
-/// That a file would be emptied.
-fn emptying_message(alloc: Global, emptied: Emptied) -> Result<String, AllocError> {
-    let option = emptied.option;
-    let file = emptied.file;
-    format!(in alloc; "'{option}' names the file of '{file}': writing to it would empty it")
-}
-
 /// The command that clap found in the words.
 fn read_matches<'a, S: AsStr>(
-    alloc: Global,
     matches: &ArgMatches<'a>,
     words: &[S],
-) -> Result<Words<'a>, Fault<'a>>
+) -> Result<Words<'a>, Refusal<'a>>
     ensures { IfOk result (RunsPlanOnlyWhere (commands.runs_plan S.text words.now)) }
 {
     match matches.subcommand() {
-        Some(("show", found)) => Ok(Words::Show(read_capture(alloc, found, Name::Show)?)),
-        Some(("check", found)) => Ok(Words::Check(read_capture(alloc, found, Name::Check)?)),
-        Some(("capture", found)) => Ok(Words::Capture(read_capture(alloc, found, Name::Capture)?)),
-        Some(("draw", found)) => Ok(Words::Draw(read_draw(alloc, found)?)),
-        Some(("serve-script", found)) => Ok(Words::ServeScript(read_serve_script(alloc, found)?)),
-        Some(("record", found)) => Ok(Words::Record(read_record(alloc, found)?)),
-        Some((name, found)) if runs_plan(words) => read_session(alloc, name, found),
-        _ => Err(refusal_of_all(alloc, "a command is missing")),
+        Some(("show", found)) => Ok(Words::Show(read_capture(found, Name::Show)?)),
+        Some(("check", found)) => Ok(Words::Check(read_capture(found, Name::Check)?)),
+        Some(("capture", found)) => Ok(Words::Capture(read_capture(found, Name::Capture)?)),
+        Some(("draw", found)) => Ok(Words::Draw(read_draw(found)?)),
+        Some(("serve-script", found)) => match read_serve_script(found) {
+            Ok(said) => Ok(Words::ServeScript(said)),
+            Err(refusal) => Err(refusal),
+        },
+        Some(("record", found)) => Ok(Words::Record(read_record(found)?)),
+        Some((name, found)) if runs_plan(words) => read_session(name, found),
+        _ => Err(Refusal::NoCommand),
     }
 }
 
 /// The command of this name that clap found, which runs a plan.
-fn read_session<'a>(
-    alloc: Global,
-    name: &str,
-    found: &ArgMatches<'a>,
-) -> Result<Words<'a>, Fault<'a>>
+fn read_session<'a>(name: &str, found: &ArgMatches<'a>) -> Result<Words<'a>, Refusal<'a>>
     ensures { IfOk result (RunsPlanOnlyWhere true) }
 {
     if name == "pair" {
-        return Ok(Words::Pair(read_pair(alloc, found)?));
+        return match read_pair(found) {
+            Ok(said) => Ok(Words::Pair(said)),
+            Err(refusal) => Err(refusal),
+        };
     }
-    Ok(Words::Attach(read_attach(alloc, found)?))
+    match read_attach(found) {
+        Ok(said) => Ok(Words::Attach(said)),
+        Err(refusal) => Err(refusal),
+    }
 }
 
 /// Whether the word behind the program's name is that of a command that runs a plan: `attach` or `pair`.
@@ -329,113 +324,93 @@ fn runs_plan<S: AsStr>(words: &[S]) -> bool
 }
 
 /// The file of a capture, and which connection of a recording it is.
-fn read_capture<'a>(
-    alloc: Global,
-    found: &ArgMatches<'a>,
-    of: Name,
-) -> Result<CaptureFile<'a>, Fault<'a>> {
+fn read_capture<'a>(found: &ArgMatches<'a>, of: Name) -> Result<CaptureFile<'a>, Refusal<'a>> {
     Ok(CaptureFile {
-        file: value(alloc, found, "file")?,
-        target_port: read_target_port(alloc, found, of)?,
-        stream: number(alloc, found, "stream", of)?,
-        table: read_table(alloc, found, of)?,
+        file: value(found, "file")?,
+        target_port: read_target_port(found, of)?,
+        stream: number(found, "stream", of)?,
+        table: read_table(found, of)?,
     })
 }
 
 /// By which table of commands data are read.
-fn read_table<'a>(alloc: Global, found: &ArgMatches<'a>, of: Name) -> Result<Table, Fault<'a>> {
+fn read_table<'a>(found: &ArgMatches<'a>, of: Name) -> Result<Table, Refusal<'a>> {
     match of {
-        Name::Show | Name::Check => Ok(table_of(read_profile(alloc, found, of)?)),
+        Name::Show | Name::Check => Ok(table_of(read_profile(found, of)?)),
         Name::Capture | Name::Draw | Name::ServeScript | Name::Attach | Name::Pair | Name::Record =>
             Ok(Table::Standard),
     }
 }
 
 /// The file of a capture, and which of its messages are drawn.
-fn read_draw<'a>(alloc: Global, found: &ArgMatches<'a>) -> Result<Draw<'a>, Fault<'a>> {
+fn read_draw<'a>(found: &ArgMatches<'a>) -> Result<Draw<'a>, Refusal<'a>> {
     Ok(Draw {
-        capture: read_capture(alloc, found, Name::Draw)?,
-        from: number(alloc, found, "from", Name::Draw)?,
-        count: number(alloc, found, "count", Name::Draw)?,
+        capture: read_capture(found, Name::Draw)?,
+        from: number(found, "from", Name::Draw)?,
+        count: number(found, "count", Name::Draw)?,
     })
 }
 
 /// The target's port in a recording, where it is named.
-fn read_target_port<'a>(
-    alloc: Global,
-    found: &ArgMatches<'a>,
-    of: Name,
-) -> Result<Option<u16>, Fault<'a>> {
+fn read_target_port<'a>(found: &ArgMatches<'a>, of: Name) -> Result<Option<u16>, Refusal<'a>> {
     if !found.contains_id("target-port") {
         return Ok(None);
     }
-    Ok(Some(port_number(alloc, found, "target-port", of)?))
+    Ok(Some(port_number(found, "target-port", of)?))
 }
 
-fn read_serve_script<'a>(
-    alloc: Global,
-    found: &ArgMatches<'a>,
-) -> Result<ServeScript<'a>, Fault<'a>> {
-    let count_limit = number(alloc, found, "count-limit", Name::ServeScript)?;
-    let live = read_live(alloc, found)?;
-    let settings = read_settings(alloc, found, count_limit, Name::ServeScript)?;
+fn read_serve_script<'a>(found: &ArgMatches<'a>) -> Result<ServeScript<'a>, Refusal<'a>> {
+    let count_limit = number(found, "count-limit", Name::ServeScript)?;
+    let live = read_live(found)?;
+    let settings = read_settings(found, count_limit, Name::ServeScript)?;
     Ok(ServeScript {
-        settings: settings.with_profile(read_profile(alloc, found, Name::ServeScript)?),
+        settings: settings.with_profile(read_profile(found, Name::ServeScript)?),
         defer: found.get_flag("defer"),
-        machine: value(alloc, found, "machine")?,
-        peer: read_server_peer(alloc, found, live.is_some())?,
-        turns: number(alloc, found, "turns", Name::ServeScript)?,
+        machine: value(found, "machine")?,
+        peer: read_server_peer(found, live.is_some())?,
+        turns: number(found, "turns", Name::ServeScript)?,
         live,
     })
 }
 
 /// The profile that the option says.
-fn read_profile<'a>(alloc: Global, found: &ArgMatches<'a>, of: Name) -> Result<Profile, Fault<'a>> {
-    match profile(value(alloc, found, "profile")?) {
+fn read_profile<'a>(found: &ArgMatches<'a>, of: Name) -> Result<Profile, Refusal<'a>> {
+    match profile(value(found, "profile")?) {
         Some(profile) => Ok(profile),
-        None => Err(refusal(alloc, of, "the options don't read")),
+        None => Err(Refusal::BadOptions(of)),
     }
 }
 
 /// Whether sessions are live, and how many milliseconds pass at least between two steps then.
-fn read_live<'a>(alloc: Global, found: &ArgMatches<'a>) -> Result<Option<u32>, Fault<'a>> {
+fn read_live<'a>(found: &ArgMatches<'a>) -> Result<Option<u32>, Refusal<'a>> {
     if !found.get_flag("live") {
         return Ok(None);
     }
     if !found.contains_id("pace") {
         return Ok(Some(0));
     }
-    Ok(Some(number(alloc, found, "pace", Name::ServeScript)?))
+    Ok(Some(number(found, "pace", Name::ServeScript)?))
 }
 
 /// Where debuggers are. That the system chooses the port is for live sessions alone, which tell it.
-fn read_server_peer<'a>(
-    alloc: Global,
-    found: &ArgMatches<'a>,
-    is_live: bool,
-) -> Result<Peer<'a>, Fault<'a>> {
-    match read_peer(alloc, found, Name::ServeScript)? {
-        Peer::Port(0) if !is_live => Err(refusal(
-            alloc,
-            Name::ServeScript,
-            "invalid value '0' for '--port <N>': 0 is not in 1..=65535",
-        )),
+fn read_server_peer<'a>(found: &ArgMatches<'a>, is_live: bool) -> Result<Peer<'a>, Refusal<'a>> {
+    match read_peer(found, Name::ServeScript)? {
+        Peer::Port(0) if !is_live => Err(Refusal::NoPortChosen),
         peer => Ok(peer),
     }
 }
 
 /// The settings of a target with this count limit, which the options of this command say.
 fn read_settings<'a>(
-    alloc: Global,
     found: &ArgMatches<'a>,
     count_limit: u32,
     of: Name,
-) -> Result<Settings, Fault<'a>> {
-    let start = value(alloc, found, "start")?;
-    let limits = read_limits(alloc, found, of)?;
+) -> Result<Settings, Refusal<'a>> {
+    let start = value(found, "start")?;
+    let limits = read_limits(found, of)?;
     match settings(start, count_limit, limits) {
         Some(settings) => Ok(settings),
-        None => Err(refusal(alloc, of, "the options don't read")),
+        None => Err(Refusal::BadOptions(of)),
     }
 }
 
@@ -445,77 +420,62 @@ fn settings(start: &str, count_limit: u32, limits: Limits) -> Option<Settings> {
 }
 
 /// The limits that the option says, or the standard ones.
-fn read_limits<'a>(alloc: Global, found: &ArgMatches<'a>, of: Name) -> Result<Limits, Fault<'a>> {
+fn read_limits<'a>(found: &ArgMatches<'a>, of: Name) -> Result<Limits, Refusal<'a>> {
     let Some(text) = found.get_str("limits") else {
         return Ok(Limits::standard());
     };
     match limits(text) {
         Some(limits) => Ok(limits),
-        None => Err(bad_limits(alloc, text, of)),
+        None => Err(Refusal::BadLimits(of, text)),
     }
 }
 
-/// The value of an option of this command that is no limits, told with the command's usage.
-fn bad_limits<'a>(alloc: Global, text: &str, of: Name) -> Fault<'a> {
-    match limits_message(alloc, text) {
-        Ok(message) => refusal(alloc, of, message.as_str()),
-        Err(_) => Fault::NoMemory,
-    }
-}
-
-/// That this value of `--limits` is none.
-fn limits_message(alloc: Global, text: &str) -> Result<String, AllocError> {
-    format!(in alloc;
-        "invalid value '{text}' for '--limits <PACKET,LIVE,REQUESTS,PENDING>': PACKET is 2048 to 1048576, the others are 1 to 1024, and 16 + 542 * REQUESTS is at most PACKET"
-    )
-}
-
-fn read_attach<'a>(alloc: Global, found: &ArgMatches<'a>) -> Result<Attach<'a>, Fault<'a>> {
+fn read_attach<'a>(found: &ArgMatches<'a>) -> Result<Attach<'a>, Refusal<'a>> {
     Ok(Attach {
-        plan: value(alloc, found, "plan")?,
-        peer: read_peer(alloc, found, Name::Attach)?,
-        order: read_order(alloc, found, Name::Attach)?,
-        limits: read_limits(alloc, found, Name::Attach)?,
-        turns: number(alloc, found, "turns", Name::Attach)?,
-        timeout: read_timeout(alloc, found)?,
+        plan: value(found, "plan")?,
+        peer: read_peer(found, Name::Attach)?,
+        order: read_order(found, Name::Attach)?,
+        limits: read_limits(found, Name::Attach)?,
+        turns: number(found, "turns", Name::Attach)?,
+        timeout: read_timeout(found)?,
         junit: found.get_str("junit"),
     })
 }
 
 /// For how many milliseconds nothing may come, if that is said.
-fn read_timeout<'a>(alloc: Global, found: &ArgMatches<'a>) -> Result<Option<u32>, Fault<'a>> {
+fn read_timeout<'a>(found: &ArgMatches<'a>) -> Result<Option<u32>, Refusal<'a>> {
     if !found.contains_id("timeout") {
         return Ok(None);
     }
-    Ok(Some(number(alloc, found, "timeout", Name::Attach)?))
+    Ok(Some(number(found, "timeout", Name::Attach)?))
 }
 
 /// In which order the target sends that a command of this name has a session with.
-fn read_order<'a>(alloc: Global, found: &ArgMatches<'a>, of: Name) -> Result<Order, Fault<'a>> {
-    match order(value(alloc, found, "order")?) {
+fn read_order<'a>(found: &ArgMatches<'a>, of: Name) -> Result<Order, Refusal<'a>> {
+    match order(value(found, "order")?) {
         Some(order) => Ok(order),
-        None => Err(refusal(alloc, of, "the options don't read")),
+        None => Err(Refusal::BadOptions(of)),
     }
 }
 
-fn read_pair<'a>(alloc: Global, found: &ArgMatches<'a>) -> Result<Pair<'a>, Fault<'a>> {
+fn read_pair<'a>(found: &ArgMatches<'a>) -> Result<Pair<'a>, Refusal<'a>> {
     Ok(Pair {
-        settings: read_settings(alloc, found, STANDARD_COUNT_LIMIT, Name::Pair)?,
+        settings: read_settings(found, STANDARD_COUNT_LIMIT, Name::Pair)?,
         defer: found.get_flag("defer"),
-        machine: value(alloc, found, "machine")?,
-        plan: value(alloc, found, "plan")?,
+        machine: value(found, "machine")?,
+        plan: value(found, "plan")?,
         between: read_between(found),
-        order: read_order(alloc, found, Name::Pair)?,
-        turns: number(alloc, found, "turns", Name::Pair)?,
+        order: read_order(found, Name::Pair)?,
+        turns: number(found, "turns", Name::Pair)?,
         junit: found.get_str("junit"),
     })
 }
 
-fn read_record<'a>(alloc: Global, found: &ArgMatches<'a>) -> Result<Record<'a>, Fault<'a>> {
+fn read_record<'a>(found: &ArgMatches<'a>) -> Result<Record<'a>, Refusal<'a>> {
     Ok(Record {
-        listen: port_number(alloc, found, "listen", Name::Record)?,
-        port: port_number(alloc, found, "port", Name::Record)?,
-        to: value(alloc, found, "to")?,
+        listen: port_number(found, "listen", Name::Record)?,
+        port: port_number(found, "port", Name::Record)?,
+        to: value(found, "to")?,
         show: found.get_flag("show"),
         once: found.get_flag("once"),
     })
@@ -531,72 +491,99 @@ fn read_between(found: &ArgMatches<'_>) -> Between {
 }
 
 /// Where the other end is that a command of this name has a session with.
-fn read_peer<'a>(alloc: Global, found: &ArgMatches<'a>, of: Name) -> Result<Peer<'a>, Fault<'a>> {
+fn read_peer<'a>(found: &ArgMatches<'a>, of: Name) -> Result<Peer<'a>, Refusal<'a>> {
     if found.contains_id("port") {
-        return Ok(Peer::Port(port_number(alloc, found, "port", of)?));
+        return Ok(Peer::Port(port_number(found, "port", of)?));
     }
     match (found.get_str("from"), found.get_str("to")) {
         (Some(from), Some(to)) => Ok(Peer::Files(SessionFiles { from, to })),
-        (None, None) => Err(missing(alloc, of, "--from <FILE> and --to <FILE>, or --port <N>")),
-        (None, Some(_)) => Err(missing(alloc, of, "--from <FILE>")),
-        (Some(_), None) => Err(missing(alloc, of, "--to <FILE>")),
+        (None, None) => Err(Refusal::Missing(of, "--from <FILE> and --to <FILE>, or --port <N>")),
+        (None, Some(_)) => Err(Refusal::Missing(of, "--from <FILE>")),
+        (Some(_), None) => Err(Refusal::Missing(of, "--to <FILE>")),
     }
-}
-
-/// Words of this command in which these options are missing.
-fn missing<'a>(alloc: Global, of: Name, options: &str) -> Fault<'a> {
-    match missing_message(alloc, options) {
-        Ok(message) => refusal(alloc, of, message.as_str()),
-        Err(_) => Fault::NoMemory,
-    }
-}
-
-/// That these options are missing.
-fn missing_message(alloc: Global, options: &str) -> Result<String, AllocError> {
-    format!(in alloc; "the following required arguments were not provided: {options}")
 }
 
 /// The number of a port, which is the value of this option.
-fn port_number<'a>(
-    alloc: Global,
-    found: &ArgMatches<'a>,
-    name: &str,
-    of: Name,
-) -> Result<u16, Fault<'a>> {
-    let number = number(alloc, found, name, of)?;
+fn port_number<'a>(found: &ArgMatches<'a>, name: &'a str, of: Name) -> Result<u16, Refusal<'a>> {
+    let number = number(found, name, of)?;
     match u16::try_from(number) {
         Ok(port) => Ok(port),
-        Err(_) => Err(refusal(alloc, of, "a port is 1 to 65535")),
+        Err(_) => Err(Refusal::BadPort(of)),
     }
 }
 
 /// The value of an argument that is required or has a default.
-fn value<'a>(alloc: Global, found: &ArgMatches<'a>, name: &str) -> Result<&'a str, Fault<'a>> {
+fn value<'a>(found: &ArgMatches<'a>, name: &'a str) -> Result<&'a str, Refusal<'a>> {
     match found.get_str(name) {
         Some(text) => Ok(text),
-        None => Err(refusal_of_all(alloc, "a value is missing")),
+        None => Err(Refusal::NoValue),
     }
 }
 
 /// The number that an option of this command has. `+5` is none, though clap takes it.
-fn number<'a>(
-    alloc: Global,
-    found: &ArgMatches<'a>,
-    name: &str,
-    of: Name,
-) -> Result<u32, Fault<'a>> {
-    let text = value(alloc, found, name)?;
+fn number<'a>(found: &ArgMatches<'a>, name: &'a str, of: Name) -> Result<u32, Refusal<'a>> {
+    let text = value(found, name)?;
     match decimal(text) {
         Some(number) => Ok(number),
-        None => Err(bad_number(alloc, text, name, of)),
+        None => Err(Refusal::BadNumber(of, name, text)),
     }
 }
 
-/// The value of an option of this command that is no number, told with the command's usage.
-fn bad_number<'a>(alloc: Global, text: &str, name: &str, of: Name) -> Fault<'a> {
-    match number_message(alloc, text, name) {
-        Ok(message) => refusal(alloc, of, message.as_str()),
+/// Why words are refused that clap takes: of the words of which command, and of which option with which value.
+#[derive(Clone, Copy)]
+enum Refusal<'a> {
+    NoCommand,
+    NoValue,
+    BadOptions(Name),
+    BadNumber(Name, &'a str, &'a str),
+    BadLimits(Name, &'a str),
+    BadPort(Name),
+    /// That the system chooses the port is for live sessions alone.
+    NoPortChosen,
+    /// Options that are required where others do not stand.
+    Missing(Name, &'a str),
+    /// The option behind which a file is written to, and the word that stands for it elsewhere: it is read, or written to for something else.
+    Empties(Name, &'a str, &'a str),
+}
+
+/// The refusal as the program tells it, with the usage of the command.
+fn fault_of<'a>(alloc: Global, refusal: Refusal<'_>) -> Fault<'a> {
+    let of = command_of(alloc, refusal);
+    match message_of(alloc, refusal) {
+        Ok(message) => bad_words(alloc, of, message.as_str()),
         Err(_) => Fault::NoMemory,
+    }
+}
+
+/// The command whose usage is told.
+fn command_of<'a>(alloc: Global, refusal: Refusal<'_>) -> Result<Command<'a>, AllocError> {
+    match refusal {
+        Refusal::NoCommand | Refusal::NoValue => command(alloc),
+        Refusal::NoPortChosen => named_in_full(alloc, Name::ServeScript),
+        Refusal::BadOptions(of)
+        | Refusal::BadNumber(of, ..)
+        | Refusal::BadLimits(of, _)
+        | Refusal::BadPort(of)
+        | Refusal::Missing(of, _)
+        | Refusal::Empties(of, ..) => named_in_full(alloc, of),
+    }
+}
+
+/// What is told of it.
+fn message_of(alloc: Global, refusal: Refusal<'_>) -> Result<String, AllocError> {
+    match refusal {
+        Refusal::NoCommand => String::from_str(alloc, "a command is missing"),
+        Refusal::NoValue => String::from_str(alloc, "a value is missing"),
+        Refusal::BadOptions(_) => String::from_str(alloc, "the options don't read"),
+        Refusal::BadNumber(_, name, text) => number_message(alloc, text, name),
+        Refusal::BadLimits(_, text) => limits_message(alloc, text),
+        Refusal::BadPort(_) => String::from_str(alloc, "a port is 1 to 65535"),
+        Refusal::NoPortChosen => String::from_str(
+            alloc,
+            "invalid value '0' for '--port <N>': 0 is not in 1..=65535",
+        ),
+        Refusal::Missing(_, options) => missing_message(alloc, options),
+        Refusal::Empties(_, option, file) => emptying_message(alloc, option, file),
     }
 }
 
@@ -610,14 +597,21 @@ fn number_message(alloc: Global, text: &str, name: &str) -> Result<String, Alloc
     format!(in alloc; "invalid value '{text}' for '--{name} <{shown}>': a number is digits alone")
 }
 
-/// Words of this command that clap takes and the program doesn't, told with the command's usage.
-fn refusal<'a>(alloc: Global, of: Name, message: &str) -> Fault<'a> {
-    bad_words(alloc, named_in_full(alloc, of), message)
+/// That this value of `--limits` is none.
+fn limits_message(alloc: Global, text: &str) -> Result<String, AllocError> {
+    format!(in alloc;
+        "invalid value '{text}' for '--limits <PACKET,LIVE,REQUESTS,PENDING>': PACKET is 2048 to 1048576, the others are 1 to 1024, and 16 + 542 * REQUESTS is at most PACKET"
+    )
 }
 
-/// The same of the program's usage.
-fn refusal_of_all<'a>(alloc: Global, message: &str) -> Fault<'a> {
-    bad_words(alloc, command(alloc), message)
+/// That these options are missing.
+fn missing_message(alloc: Global, options: &str) -> Result<String, AllocError> {
+    format!(in alloc; "the following required arguments were not provided: {options}")
+}
+
+/// That a file would be emptied.
+fn emptying_message(alloc: Global, option: &str, file: &str) -> Result<String, AllocError> {
+    format!(in alloc; "'{option}' names the file of '{file}': writing to it would empty it")
 }
 
 /// The command with the program's name before its own.
