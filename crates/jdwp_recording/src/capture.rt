@@ -7,7 +7,6 @@ use crate::direction::{Direction, first_number};
 use crate::packets::{Endpoint, Segment};
 use crate::recording::Recording;
 use crate::recording_fault::RecordingFault;
-use jdwp_show::Sender;
 use std::alloc::{AllocError, Global};
 
 /// The capture of a session.
@@ -34,12 +33,10 @@ impl<'a> Recording<'a> {
         let mut debugger = direction(alloc, segments, connection.debugger, connection.target);
         let mut target = direction(alloc, segments, connection.target, connection.debugger);
         for segment in segments {
-            match connection.sender(segment) {
-                Some(Sender::Debugger) => {
-                    come(alloc, &mut debugger, segment, b'>', &mut text)?;
-                }
-                Some(Sender::Target) => come(alloc, &mut target, segment, b'<', &mut text)?,
-                None => {}
+            if connection.is_by_debugger(segment) {
+                come(alloc, &mut debugger, segment, b'>', &mut text)?;
+            } else if connection.is_by_target(segment) {
+                come(alloc, &mut target, segment, b'<', &mut text)?;
             }
         }
         let fault = first_fault(debugger.fault(), target.fault());

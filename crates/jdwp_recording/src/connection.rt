@@ -5,7 +5,6 @@ ghost use Rattle.jdwp_recording.specs.declared.recording_fault.RecordingFault.Th
 use crate::packets::{Endpoint, Segment};
 use crate::recording::Recording;
 use crate::recording_fault::RecordingFault;
-use jdwp_show::Sender;
 use std::alloc::Global;
 
 /// The first bytes that each side sends.
@@ -126,15 +125,14 @@ impl Connection {
         Ok(found.len())
     }
 
-    /// Which side sent a segment. None where it is of another connection.
-    pub fn sender(&self, segment: &Segment<'_>) -> Option<Sender> {
-        if segment.from == self.debugger && segment.to == self.target {
-            Some(Sender::Debugger)
-        } else if segment.from == self.target && segment.to == self.debugger {
-            Some(Sender::Target)
-        } else {
-            None
-        }
+    /// Whether the debugger of this connection sent a segment.
+    pub fn is_by_debugger(&self, segment: &Segment<'_>) -> bool {
+        segment.from == self.debugger && segment.to == self.target
+    }
+
+    /// Whether its target did.
+    pub fn is_by_target(&self, segment: &Segment<'_>) -> bool {
+        segment.from == self.target && segment.to == self.debugger
     }
 }
 

@@ -1,4 +1,4 @@
-//! Runs of both ends by plans; plans, captures and faults that are told; what stands between two ends and writes down what they say: and the
+//! Runs of both ends by plans; plans, captures and faults that are told; what stands between two ends and writes down what they say; the
 //! program's command lines: tests of `jdwp_pair`, `jdwp_attach`, `jdwp_program`, `jdwp_words`, `jdwp_files` and `jdwp_record`, which call what
 //! anybody can call.
 #![tactic(auto)]
