@@ -121,8 +121,8 @@ jdwp_plan_run | run_plan | Lines in words are carried out in order, each once, u
 ## Sessions over IO, the program
 
 jdwp_engine | serve in_order ended rounds limit at_most | What was read is fed and what was enqueued written, in order, or a beginning where a write failed, all flushed before each read; the session is its rounds, and each way to end comes only for its reason
-jdwp_live | serve_live in_order ended rounds | The same, live: threads step only where a read just before found nothing for as long as steps are apart
-jdwp_live | serve_live_sessions serves; serve_live_stream | So is each at a port; times: tested
+jdwp_engine | serve_live in_order ended rounds | The same, live: threads step only where a read just before found nothing for as long as steps are apart
+jdwp_port | serve_live_sessions serves; serve_live_stream | So is each at a port; times: tested
 jdwp_attach | attach_by_lines in_order ended last_flush line | The same of a debugger by a plan: the commands of its lines, in order, and between them a SuspendCount exactly where an event leaves its thread unsure, in `Order::Apart` alone; what is printed is what was told, or a beginning
 jdwp_attach | mirror_text; known_text; answered_line; seen_line | Lines are those of `show`; a mirror is told by its threads, then its requests; in `Order::Apart` each thread that was named, by what is sure
 jdwp_engine | serve_session served; serve_script fault untouched | A new target's session, from what was read to what was written; a script's fault with nothing touched

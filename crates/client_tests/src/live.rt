@@ -1,4 +1,4 @@
-//! Live sessions of a target on a reader that is told what to give: tests of `jdwp_live`, which call what anybody can call.
+//! Live sessions of a target on a reader that is told what to give: tests of `jdwp_engine` and `jdwp_port`, which call what anybody can call.
 mod live_tests;
 mod network;
 mod pace_tests;

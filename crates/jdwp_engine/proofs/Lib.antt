@@ -7,3 +7,10 @@ pub mod Spending
 pub mod Turns
 pub mod Ahead
 pub mod Still
+pub mod LiveEnding
+pub mod Established
+pub mod Flushed
+pub mod Living
+pub mod LiveRounding
+pub mod Known
+pub mod Leaving

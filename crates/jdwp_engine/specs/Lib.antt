@@ -6,3 +6,8 @@ pub mod Sessions
 pub mod Steps
 pub mod RunLaws
 pub mod Serving
+pub mod LiveNext
+pub mod LiveRounds
+pub mod LiveMoving
+pub mod LiveStory
+pub mod LiveStreams

@@ -24,10 +24,11 @@ use jdwp_debuggee::Settings;
 use jdwp_debugger::{Debugger, Order};
 use jdwp_end::{Ended, Pipe, Streams};
 use jdwp_link::Memory;
-use jdwp_live::serve_live_sessions;
 use jdwp_machine::Machine;
 use jdwp_pair::{Connection, Loopback, PairEnded, pair_session};
-use jdwp_port::{PortFault, PortListener, attach_stream, bind, connect, serve_sessions};
+use jdwp_port::{
+    PortFault, PortListener, attach_stream, bind, connect, serve_live_sessions, serve_sessions,
+};
 use jdwp_program::{
     Attach, Awaited, Between, Fault, Lines, Outcome, Pair, ServeScript, Watched, tell_listening,
 };

@@ -1,2 +1,4 @@
 pub mod Closing
 pub mod Onward
+pub mod LiveClosing
+pub mod LiveOnward

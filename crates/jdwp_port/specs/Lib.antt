@@ -5,3 +5,7 @@ pub mod Listeners
 pub mod Notices
 pub mod Served
 pub mod Watching
+pub mod LiveConnections
+pub mod LiveNotices
+pub mod LiveServed
+pub mod LiveReading

@@ -6,8 +6,7 @@ use crate::losing::Loss;
 use crate::outcome::{Outcome, report_outcome};
 use crate::printing::print;
 use jdwp_end::Ended;
-use jdwp_live::{LiveCause, LiveNotice};
-use jdwp_port::{Notice, PortCause};
+use jdwp_port::{LiveCause, LiveNotice, Notice, PortCause};
 use std::alloc::Global;
 use std::io::Write;
 

@@ -1,8 +1,8 @@
 -- What contracts say of live sessions.
-pub use Rattle.jdwp_live.specs.LiveNext
-pub use Rattle.jdwp_live.specs.LiveRounds
-pub use Rattle.jdwp_live.specs.LiveMoving
-pub use Rattle.jdwp_live.specs.LiveStory
-pub use Rattle.jdwp_live.specs.LiveStreams
-pub use Rattle.jdwp_live.specs.declared.pipes.pipe.Came
-pub use Rattle.jdwp_live.specs.declared.pipes.pipe.Patience
+pub use Rattle.jdwp_engine.specs.LiveNext
+pub use Rattle.jdwp_engine.specs.LiveRounds
+pub use Rattle.jdwp_engine.specs.LiveMoving
+pub use Rattle.jdwp_engine.specs.LiveStory
+pub use Rattle.jdwp_engine.specs.LiveStreams
+pub use Rattle.jdwp_engine.specs.declared.pipes.pipe.Came
+pub use Rattle.jdwp_engine.specs.declared.pipes.pipe.Patience

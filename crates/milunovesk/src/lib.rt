@@ -73,7 +73,10 @@ pub use jdwp_attach::{
     Attached, LineFault, PlanFault, PlanLine, attach, attach_by_lines, read_plan,
 };
 pub use jdwp_end::{Ended, Pipe, Streams};
-pub use jdwp_engine::{serve, serve_script, serve_session};
+pub use jdwp_engine::{
+    Came, LivePipe, LiveStreams, Patience, PatientRead, serve, serve_live, serve_script,
+    serve_session,
+};
 
 // A client: a debugger that asks, and waits for answers and events; one at an address; and one that keeps frames.
 pub use jdwp_client as client;
@@ -81,7 +84,6 @@ pub use jdwp_client_port::{ConnectFault, Connection, connect};
 pub use jdwp_frames::FrameClient;
 
 // Live sessions: a target whose threads step while a debugger is there.
-pub use jdwp_live::{Came, LivePipe, LiveStreams, Patience, PatientRead, serve_live};
 
 // Sessions at ports of this machine.
 pub use jdwp_port as ports;

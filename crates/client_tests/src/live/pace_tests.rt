@@ -3,7 +3,7 @@ use crate::asserts::{expect_same, expect_same_for};
 use crate::live::readers::Gives;
 use crate::live::sessions::{expect_served, served, target};
 use jdwp_end::Ended;
-use jdwp_live::Patience;
+use jdwp_engine::Patience;
 use std::alloc::Global;
 use std::process::Abort;
 

@@ -1,8 +1,8 @@
 //! A reader that is told what to give, and keeps how long each of its reads was to wait.
 ghost use Rattle.std.specs.Prelude.{◌≡◌, ◌<◌, length, IfOk};
-ghost use Rattle.jdwp_live.specs.LiveStory.{Fits};
+ghost use Rattle.jdwp_engine.specs.LiveStory.{Fits};
 
-use jdwp_live::{Came, Patience, PatientRead};
+use jdwp_engine::{Came, Patience, PatientRead};
 use std::io;
 use std::io::ErrorKind;
 

@@ -2,7 +2,7 @@
 use crate::asserts::expect_same_for;
 use crate::live::readers::{Gives, Reader};
 use jdwp_end::Ended;
-use jdwp_live::{LiveStreams, Patience, serve_live};
+use jdwp_engine::{LiveStreams, Patience, serve_live};
 use jdwp_script_machine::ScriptMachine;
 use jdwp_target::TargetOptions;
 use std::alloc::Global;

@@ -1,9 +1,0 @@
-pub mod Ending
-pub mod Established
-pub mod Flushed
-pub mod Living
-pub mod Rounding
-pub mod Known
-pub mod Leaving
-pub mod LiveClosing
-pub mod LiveOnward

@@ -1,9 +1,0 @@
-pub mod LiveNext
-pub mod LiveRounds
-pub mod LiveMoving
-pub mod LiveStory
-pub mod LiveStreams
-pub mod LiveConnections
-pub mod LiveNotices
-pub mod LiveReading
-pub mod LiveServed
