@@ -3,6 +3,7 @@ pub mod Settled
 pub mod Ids
 pub mod Losing
 pub mod Keeping
+pub mod Still
 pub mod Admitting
 pub mod NewsLemmas
 pub mod Saying

@@ -178,6 +178,14 @@ impl Debugger {
         if self.end.is_open() || self.pending.has_tickets() {
             return false;
         }
+        self.begin_session();
+        true
+    }
+
+    /// Begins a session, in place of what was before.
+    fn begin_session(&mut self)
+        ensures { self.new ≡ attached self.old }
+    {
         self.end.open();
         self.end.enqueue(&HANDSHAKE);
         self.mirror.clear();
@@ -185,7 +193,6 @@ impl Debugger {
         self.parked.clear();
         self.pending.clear();
         self.ledger = begin(self.order, self.alloc);
-        true
     }
 
     /// Asks a command of the target: its packet is to leave, under the next id under which no command waits for its reply. The answer comes

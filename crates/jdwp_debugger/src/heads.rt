@@ -1,8 +1,10 @@
 //! What the last turn read.
 ghost use Rattle.std.specs.Prelude.{◌≡◌, ◌+◌, ◌<◌, ◌≤◌, ◌++◌, ◌∷◌, [], length};
 ghost use Rattle.jdwp_debugger.specs.DebuggerTurns.{heads_of, reply_head};
+ghost use Rattle.jdwp_mirror.specs.Messages.{id_sizes};
 
 use crate::parked::Parked;
+use jdwp_layout::numbers::{ID_SIZES, VIRTUAL_MACHINE};
 use jdwp_mirror::Command;
 use jdwp_wire::Header;
 use std::marker::Model;
@@ -94,5 +96,19 @@ impl Heads {
         for waiting in parked {
             self.push(Head::Composite(waiting.header));
         }
+    }
+
+    /// The composites that waited were read, and then the reply that has the widths of ids, with this header; nothing else.
+    pub fn set_sizes(&mut self, parked: &[Parked], header: Header)
+        requires { length parked.now ≤ 4 }
+        ensures { self.new ≡ heads_of parked.now ++ reply_head header id_sizes ∷ [] }
+    {
+        self.clear();
+        self.push_waiting(parked);
+        self.push(Head::Reply {
+            header,
+            set: VIRTUAL_MACHINE,
+            number: ID_SIZES,
+        });
     }
 }

@@ -42,7 +42,7 @@ use jdwp_layout::Answer;
 use jdwp_layout::numbers::{ID_SIZES, VIRTUAL_MACHINE};
 use jdwp_mirror::{Command, CommandKind, Mirror};
 use jdwp_watch::{Ledger, Put};
-use jdwp_wire::{HANDSHAKE, Header, IdSizes, PacketKind};
+use jdwp_wire::{HANDSHAKE, Header, IdSizes, NoMemory, PacketKind};
 use std::alloc::Global;
 
 /// What a turn read.
@@ -347,13 +347,35 @@ impl Debugger {
         ensures err { IfErr result (λ fault.
             FailsOnly fault (has_bad_in self.now.order none_known (reports composites.now))) }
     {
+        let mirror = self.learn_packets(alloc, place, answer, composites)?;
+        let (_, asked) = self.pending.at(place);
+        match follow_waited(self.order, alloc, &asked.command, answer, composites) {
+            Ok(ledger) => Ok(Learned { mirror, ledger }),
+            Err(NoMemory) => Err(DebuggerFault::NoMemory),
+        }
+    }
+
+    /// What the mirror learns from the composites that waited, and then from the answer to the command at this place.
+    fn learn_packets(
+        &self,
+        alloc: Global,
+        place: usize,
+        answer: &Answer,
+        composites: &[Composite],
+    ) -> Result<Mirror, DebuggerFault>
+        requires place { place < length self.now.pending }
+        ensures ok { IfOk result (λ m. (has_bad_in self.now.order none_known (reports composites.now) ≡ false)
+            × LearnedAll self.now.order empty_mirror (reports composites.now ++ Reply None
+            (command_at place self.now.pending) answer.now ∷ []) m) }
+        ensures err { IfErr result (λ fault.
+            FailsOnly fault (has_bad_in self.now.order none_known (reports composites.now))) }
+    {
         let mut mirror = Mirror::new(alloc);
         learn_each(self.order, &mut mirror, composites)?;
         let (_, asked) = self.pending.at(place);
         self.order
             .learn_reply(alloc, &mut mirror, &asked.command, answer)?;
-        let ledger = follow_waited(self.order, alloc, &asked.command, answer, composites)?;
-        Ok(Learned { mirror, ledger })
+        Ok(mirror)
     }
 
     /// The widths of ids become known, and with them what was learned.
@@ -373,21 +395,13 @@ impl Debugger {
         ensures followed { (told : TellsSizes self.old packet.0 packet.1 place sizes learned.mirror learned.ledger)
             → GoesOnBy (news.Measures place told.answer sizes told.composites) self.old learned.ledger }
     {
-        let (header, used) = packet;
-        let Learned { mirror, ledger } = learned;
-        self.end.take_off(used);
-        self.last.clear();
-        self.last.push_waiting(&self.parked);
-        self.last.push(Head::Reply {
-            header,
-            set: VIRTUAL_MACHINE,
-            number: ID_SIZES,
-        });
+        self.mirror = learned.mirror;
+        self.ledger = learned.ledger;
+        self.sizes = Some(sizes);
+        self.end.take_off(packet.1);
+        self.last.set_sizes(&self.parked, packet.0);
         self.parked.clear();
         self.pending.remove(place);
-        self.mirror = mirror;
-        self.sizes = Some(sizes);
-        self.ledger = ledger;
         self.close_measured(closes, sizes);
     }
 

@@ -143,7 +143,10 @@ impl<M: Machine + Drop> Target<M> {
         if machine.live().len() > limits.live() as usize {
             return Err(SetupFault::TooManyThreads);
         }
-        Ok(Target::with_settings(alloc, machine, options.settings(limits))?)
+        match Target::with_settings(alloc, machine, options.settings(limits)) {
+            Ok(target) => Ok(target),
+            Err(NoMemory) => Err(SetupFault::NoMemory),
+        }
     }
 
     /// The same with these settings, within their limits: the machine has 1 to `settings.limits().live()` live threads.

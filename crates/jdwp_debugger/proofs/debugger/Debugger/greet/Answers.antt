@@ -18,6 +18,7 @@ use Rattle.jdwp_debugger.specs.Runs.{HasRun}
 use Rattle.jdwp_debugger.proofs.DebuggerRuns.{ran-greeted, with_sizes_asked}
 use Rattle.jdwp_debugger.proofs.Keeping.{distinct-more, own-more}
 use Rattle.jdwp_debugger.proofs.TurningLemmas.{handshake-phase}
+use Rattle.jdwp_debugger.proofs.Still.{established, still}
 use Rattle.jdwp_debugger.proofs.debugger.Debugger.greet.Goals as goal
 
 pub push-requires : goal.push-requires
@@ -56,7 +57,7 @@ invariant_of-self-2 c =
       few_parked = kept.few_parked;
       distinct = subst AreDistinct (sym pushed) (distinct-more ps p kept.distinct free);
       own = subst AreOwn (sym pushed) (own-more ps p (λ none. refl) kept.own);
-      begins = λ e. absurd cc;
+      begins = λ e. absurd (established e);
       alone = λ opened none. alone;
       unlearned = kept.unlearned;
       unparked = kept.unparked;
@@ -76,3 +77,10 @@ returns c =
     let none : c.args.self.now.pending ≡ [] = ap (λ (d : Debugger). d.pending) (sym c.self.view_is) ∙ begins.0 in
     let taken : c.take_off.new.self ≡ with_handled Handshake 14 c.self.inside.end = c.take_off.ensures Handshake front in
     search rules
+
+pub take_off-requires : goal.take_off-requires
+take_off-requires c = (Handshake, ap (λ (d : Debugger). front_of d.end) c.self.view_is ∙ c.requires.front)
+
+pub invariant_of-self : goal.invariant_of-self
+invariant_of-self c =
+    still c.self.inside _ (ap (λ (qs : List Asked). record (view_of c.self.inside) { pending = qs }) (sym c.in_err-push.ensures.err)) c.self.invariant

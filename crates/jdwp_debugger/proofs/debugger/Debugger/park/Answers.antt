@@ -10,6 +10,7 @@ use Rattle.jdwp_debugger.specs.FollowingKept.{following_of}
 use Rattle.jdwp_debugger.specs.News.{Waits}
 use Rattle.jdwp_debugger.specs.Runs.{HasRun}
 use Rattle.jdwp_debugger.proofs.SaidPackets.{may-park, parks-unknown, said-open, said-ran}
+use Rattle.jdwp_debugger.proofs.Still.{established, some-not}
 use Rattle.jdwp_debugger.proofs.debugger.Debugger.park.Goals as goal
 
 pub take_off-requires : goal.take_off-requires
@@ -36,13 +37,13 @@ invariant_of-self-2 c =
       few_parked = few;
       distinct = kept.distinct;
       own = kept.own;
-      begins = λ e. absurd cc;
+      begins = λ e. absurd (established e);
       alone = λ opened none. kept.alone (said-open (view_of s) header used news bytes said) none;
       unlearned = kept.unlearned;
       unfollowed = kept.unfollowed;
       counted = kept.counted;
       at_first = λ opened none. kept.at_first (said-open (view_of s) header used news bytes said) none;
-      unparked = λ w known. absurd (let none = parks-unknown (view_of s) header used c.args.body.items said in cc);
+      unparked = λ w known. absurd (some-not w (sym known ∙ parks-unknown (view_of s) header used c.args.body.items said));
       ran = subst (λ (ps : List Parked). HasRun s.order end s.tickets (record { order = s.order; sizes = s.sizes; parked = ps; pending = s.pending }) s.mirror (following_of s.ledger s.sizes s.pending)) (sym pushed)
           (said-ran (view_of s) header used news s.mirror bytes said refl refl kept.ran);
     })

@@ -1,5 +1,4 @@
-use Rattle.std.proofs.Common.{◌≡◌, ◌∙◌, ◌+◌, ◌≤◌, ◌++◌, ap, sym, subst, rules, arith, length, false, List, [], ◌∷◌, ℕ, Option, None, Some, ◌<◌}
-use Rattle.std.proofs.lemmas.List.{length-append}
+use Rattle.std.proofs.Common.{◌≡◌, ◌∙◌, ◌+◌, ◌≤◌, ◌++◌, ap, sym, subst, length, false, List, [], ◌∷◌, ℕ, Option, None, Some, ◌<◌, refl}
 use Rattle.jdwp_apart.specs.Following.{Following, put_to}
 use Rattle.jdwp_watch.specs.declared.put.Put.{Put}
 use Rattle.jdwp_watch.specs.Ledgers.{Account, put_of}
@@ -18,6 +17,7 @@ use Rattle.jdwp_debugger.specs.Runs.{HasRun}
 use Rattle.jdwp_debugger.proofs.DebuggerRuns.{ran-asked, with_command}
 use Rattle.jdwp_debugger.proofs.Admitting.{asked-established}
 use Rattle.jdwp_debugger.proofs.Keeping.{distinct-more, own-more}
+use Rattle.jdwp_debugger.proofs.Still.{established, few-more, some-not, still}
 use Rattle.jdwp_debugger.proofs.debugger.Debugger.put_command.Goals as goal
 
 pub invariant_of-self-2 : goal.invariant_of-self-2
@@ -31,9 +31,9 @@ invariant_of-self-2 c =
     let end : End = with_enqueued (command_bytes leaves.widths id c.args.command) s.end in
     let asked : c.enqueue.new.self ≡ end = c.enqueue.ensures ∙ ap (λ (b : List ℕ). with_enqueued b s.end) (c.deref.ensures.value ∙ leaves.bytes_are) in
     let known = leaves.known in
-    let pushed : c.push.new.self ≡ ps ++ p ∷ [] = search rules in
+    let pushed : c.push.new.self ≡ ps ++ p ∷ [] = c.in_ok-push.ensures.ok in
     let room : length ps < s.end.limits.pending = leaves.few in
-    let few : length c.push.new.self ≤ s.end.limits.pending = omega (arith, room, ap (λ (qs : List Asked). length qs) pushed, length-append ps (p ∷ [])) in
+    let few : length c.push.new.self ≤ s.end.limits.pending = subst (λ (qs : List Asked). length qs ≤ s.end.limits.pending) (sym pushed) (few-more ps p s.end.limits.pending room) in
     let free : is_outstanding ps id ≡ false = c.next_free-id.ensures.free in
     let phase : s.end.phase ≡ Established = asked-established (view_of s) c.args.command leaves.widths leaves.unrefused known kept.begins in
     let noted : c.note_put.new.ledger ≡ ledger_put (put_of c.args.command) s.ledger = c.note_put.ensures ∙ c.put_where_followed-put.ensures in
@@ -45,15 +45,15 @@ invariant_of-self-2 c =
       few = few;
       few_parked = kept.few_parked;
       distinct = subst AreDistinct (sym pushed) (distinct-more ps p kept.distinct free);
-      own = subst AreOwn (sym pushed) (own-more ps p (λ none. absurd cc) kept.own);
-      begins = λ e. let none = kept.begins e in absurd cc;
-      alone = λ opened none. absurd cc;
-      unlearned = λ none. absurd cc;
+      own = subst AreOwn (sym pushed) (own-more ps p (λ none. absurd (some-not _ none)) kept.own);
+      begins = λ e. absurd (established (sym phase ∙ e));
+      alone = λ opened none. absurd (some-not leaves.widths (sym known ∙ none));
+      unlearned = λ none. absurd (some-not leaves.widths (sym known ∙ none));
       unparked = kept.unparked;
       unfollowed = λ one. noted ∙ put-none (put_of c.args.command) s.ledger (kept.unfollowed one);
       counted = subst (λ (l : Option Account). IsCounted l (widths_by s.sizes) c.push.new.self) (sym noted)
           (subst (λ (qs : List Asked). IsCounted (ledger_put (put_of c.args.command) s.ledger) (widths_by s.sizes) qs) (sym pushed) (put-counts (widths_by s.sizes) ps p s.ledger kept.counted));
-      at_first = λ opened none. absurd cc;
+      at_first = λ opened none. absurd (some-not leaves.widths (sym known ∙ none));
       ran = subst (λ (qs : List Asked). HasRun s.order end (s.tickets + 1) (record { order = s.order; sizes = s.sizes; parked = s.parked.items; pending = qs }) s.mirror (following_of c.note_put.new.ledger s.sizes c.push.new.self)) (sym pushed)
           (subst (λ (f : Option Following). HasRun s.order end (s.tickets + 1) (with_command id s.tickets c.args.command (reading_of (view_of s))) s.mirror f) (sym follows)
           (ran-asked s.end s.tickets (reading_of (view_of s)) s.mirror (following_of s.ledger s.sizes ps) leaves.widths id c.args.command phase known free leaves.encoded kept.ran));
@@ -76,7 +76,7 @@ returns-clause-ok c =
     let established = asked-established old command leaves.widths unrefused known begins in
     let p : Asked = record { id = id; ticket = Some (record { 0 = s.tickets + 1 }); command = command } in
     let end : c.enqueue.new.self ≡ with_enqueued (command_bytes leaves.widths id command) s.end = c.enqueue.ensures ∙ ap (λ (b : List ℕ). with_enqueued b s.end) (c.deref.ensures.value ∙ leaves.bytes_are) in
-    let pushed : c.push.new.self ≡ s.pending ++ p ∷ [] = search rules in
+    let pushed : c.push.new.self ≡ s.pending ++ p ∷ [] = c.in_ok-push.ensures.ok in
     let noted : c.note_put.new.ledger ≡ ledger_put (put_of command) s.ledger = c.note_put.ensures ∙ c.put_where_followed-put.ensures in
     let next : IsNextFree old.pending old.next_id id = subst (λ (d : Debugger). IsNextFree d.pending d.next_id id) c.self.view_is c.next_free-id.ensures in
     let whole : record (view_of s) { end = c.enqueue.new.self; pending = c.push.new.self; next_id = id_after id 1; tickets = s.tickets + 1; ledger = c.note_put.new.ledger } ≡ asked leaves.widths id command (view_of s) =
@@ -94,3 +94,13 @@ returns-clause-ok c =
         is = whole ∙ ap (λ (d : Debugger). asked leaves.widths id command d) c.self.view_is;
       },
     )
+
+pub invariant_of-self-in_err-write_packet : goal.invariant_of-self-in_err-write_packet
+invariant_of-self-in_err-write_packet c = still c.self.inside _ refl c.self.invariant
+
+pub invariant_of-self-in_err-check_room : goal.invariant_of-self-in_err-check_room
+invariant_of-self-in_err-check_room c = still c.self.inside _ refl c.self.invariant
+
+pub invariant_of-self-in_err-push : goal.invariant_of-self-in_err-push
+invariant_of-self-in_err-push c =
+    still c.self.inside _ (ap (λ (qs : List Asked). record (view_of c.self.inside) { pending = qs }) (sym c.in_err-push.ensures.err)) c.self.invariant

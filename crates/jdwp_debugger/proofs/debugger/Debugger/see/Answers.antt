@@ -17,6 +17,7 @@ use Rattle.jdwp_debugger.specs.Runs.{HasRun, heard_by}
 use Rattle.jdwp_debugger.proofs.Followed.{report-follows, report-none}
 use Rattle.jdwp_debugger.proofs.Ordering.{may-learn}
 use Rattle.jdwp_debugger.proofs.SaidPackets.{knows, said-ran}
+use Rattle.jdwp_debugger.proofs.Still.{established}
 use Rattle.jdwp_debugger.proofs.debugger.Debugger.see.Goals as goal
 
 pub take_off-requires : goal.take_off-requires
@@ -49,7 +50,7 @@ invariant_of-self-2 c =
       few_parked = kept.few_parked;
       distinct = kept.distinct;
       own = kept.own;
-      begins = λ e. absurd cc;
+      begins = λ e. absurd (established e);
       alone = λ opened none. absurd (knows (view_of s) header used composite said none);
       unlearned = λ none. absurd (knows (view_of s) header used composite said none);
       unparked = kept.unparked;

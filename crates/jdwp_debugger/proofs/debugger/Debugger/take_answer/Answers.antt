@@ -19,9 +19,11 @@ use Rattle.jdwp_debugger.specs.Orders.{LearnedIn}
 use Rattle.jdwp_debugger.specs.Runs.{HasRun, heard_by}
 use Rattle.jdwp_mirror.specs.Messages.{Reply}
 use Rattle.jdwp_mirror.specs.Mirror.{ends}
+use Rattle.jdwp_mirror.specs.Mirrors.{Mirror}
 use Rattle.jdwp_debugger.proofs.Keeping.{distinct-left, few-left, own-left}
 use Rattle.jdwp_debugger.proofs.Ordering.{may-learn}
 use Rattle.jdwp_debugger.proofs.SaidPackets.{answers-within, known-before, said-open, said-ran}
+use Rattle.jdwp_debugger.proofs.Still.{established, still}
 use Rattle.jdwp_debugger.proofs.debugger.Debugger.take_answer.Goals as goal
 
 pub at-requires : goal.at-requires
@@ -91,7 +93,7 @@ invariant_of-self-2 c =
       few_parked = kept.few_parked;
       distinct = subst AreDistinct (sym left) (distinct-left ps place within kept.distinct);
       own = subst AreOwn (sym left) (own-left ps place kept.own);
-      begins = λ e. absurd cc;
+      begins = λ e. absurd (established e);
       alone = λ opens none. absurd (known-before (view_of s) header used place ticket answer said (kept.alone opened none));
       unlearned = λ none. absurd (known-before (view_of s) header used place ticket answer said (kept.alone opened none));
       unparked = kept.unparked;
@@ -149,3 +151,7 @@ returns c = λ content front.
         ),
       ),
     )
+
+pub invariant_of-self : goal.invariant_of-self
+invariant_of-self c =
+    still c.self.inside _ (ap (λ (m : Mirror). record (view_of c.self.inside) { mirror = m }) (sym c.in_err-learn_reply.ensures.err)) c.self.invariant

@@ -1,10 +1,10 @@
-use Rattle.std.proofs.Common.{◌≡◌, ◌∙◌, ◌<◌, ◌≤◌, ◌++◌, [], ◌∷◌, List, Option, Some, ap, sym, subst, length, arith, rules}
+use Rattle.std.proofs.Common.{◌≡◌, ◌∙◌, ◌<◌, ◌≤◌, ◌++◌, [], ◌∷◌, List, Option, Some, ap, sym, subst, length, arith}
 use Rattle.std.specs.Prelude.{remove}
 use Rattle.jdwp_wire.specs.Bytes.{IsBytes}
 use Rattle.jdwp_wire.specs.Streams.{Packet}
 use Rattle.jdwp_end.specs.Ends.{End, front_of, with_handled}
 use Rattle.jdwp_mirror.specs.Faults.{PARKED_MOST}
-use Rattle.jdwp_debugger.specs.Debuggers.{AreDistinct, AreOwn, Asked, Debugger}
+use Rattle.jdwp_debugger.specs.Debuggers.{AreDistinct, AreOwn, Asked, Debugger, Parked}
 use Rattle.jdwp_debugger.specs.DebuggersKept.{view_of}
 use Rattle.jdwp_debugger.specs.DebuggerTurns.{GoesOnBy, IsSaid, TellsSizes, heads_of, measured_where, reading_of, reply_head, with_ledger, with_sizes}
 use Rattle.jdwp_debugger.specs.Histories.{reading_after}
@@ -16,6 +16,7 @@ use Rattle.jdwp_apart.specs.Following.{Following}
 use Rattle.jdwp_debugger.specs.FollowingKept.{IsCounted, IsFirstOf, following_of}
 use Rattle.jdwp_debugger.proofs.Followed.{first-none, sizes-follow}
 use Rattle.jdwp_debugger.proofs.SaidPackets.{measures-bare, measures-first-time, measures-within, said-open, said-ran}
+use Rattle.jdwp_debugger.proofs.Still.{established, some-not}
 use Rattle.jdwp_debugger.proofs.debugger.Debugger.take_sizes.Goals as goal
 
 pub take_off-requires : goal.take_off-requires
@@ -28,7 +29,10 @@ remove-requires c =
     let cs = c.requires.told.composites in
     let said = subst (λ (d : Debugger). IsSaid d c.args.packet.0 c.args.packet.1 (Measures c.args.place answer c.args.sizes cs)) (sym c.self.view_is) c.requires.told.said in
     let within : c.args.place < length s.pending = measures-within (view_of s) c.args.packet.0 c.args.packet.1 c.args.place answer c.args.sizes cs said in
-    omega (arith, within)
+    within
+
+pub set_sizes-requires : goal.set_sizes-requires
+set_sizes-requires c = subst (λ (ps : List Parked). length ps ≤ PARKED_MOST) (sym c.deref.ensures.value) c.self.invariant.few_parked
 
 pub invariant_of-self : goal.invariant_of-self
 invariant_of-self c =
@@ -49,13 +53,13 @@ invariant_of-self c =
     let read : c.take_off.new.self ≡ end = c.take_off.ensures (Packet header said.body) said.front in
     let left : c.remove.new.self ≡ remove ps place = c.remove.ensures in
     let within : place < length ps = measures-within (view_of s) header used place answer w cs said in
-    let now : Reading = record { order = s.order; sizes = Some w; parked = c.clear-2.new.self.items; pending = c.remove.new.self } in
-    let settled : now ≡ reading_after header news (reading_of (view_of s)) = (λ j. record { order = s.order; sizes = Some w; parked = c.clear-2.ensures.items j; pending = left j }) in
+    let now : Reading = record { order = s.order; sizes = Some w; parked = c.clear.new.self.items; pending = c.remove.new.self } in
+    let settled : now ≡ reading_after header news (reading_of (view_of s)) = (λ j. record { order = s.order; sizes = Some w; parked = c.clear.ensures.items j; pending = left j }) in
     let unknown = measures-first-time (view_of s) header used place answer w cs bytes said kept.ran in
     let bare = measures-bare (view_of s) header used place answer w cs said in
     let opened = said-open (view_of s) header used news bytes said in
     let follows = sizes-follow s.order s.ledger c.args.learned.ledger s.sizes w ps place bare.0 answer cs (kept.alone opened unknown) bare.1 (kept.at_first opened unknown) told.followed in
-    let few_parked : length c.clear-2.new.self.items ≤ PARKED_MOST = search (rules, arith) in
+    let few_parked : length c.clear.new.self.items ≤ PARKED_MOST = subst (λ (ps : List Parked). length ps ≤ PARKED_MOST) (sym c.clear.ensures.items) (omega arith) in
     rw read
     (record {
       limits = kept.limits;
@@ -63,13 +67,13 @@ invariant_of-self c =
       few_parked = few_parked;
       distinct = subst AreDistinct (sym left) (distinct-left ps place within kept.distinct);
       own = subst AreOwn (sym left) (own-left ps place kept.own);
-      begins = λ e. absurd cc;
-      alone = λ opened none. absurd cc;
-      unlearned = λ none. absurd cc;
-      unparked = λ v known. c.clear-2.ensures.items;
+      begins = λ e. absurd (established e);
+      alone = λ opened none. absurd (some-not w none);
+      unlearned = λ none. absurd (some-not w none);
+      unparked = λ v known. c.clear.ensures.items;
       unfollowed = λ one. first-none s.order answer cs c.args.learned.ledger one told.followed;
       counted = subst (IsCounted c.args.learned.ledger w) (sym left) follows.1;
-      at_first = λ opened none. absurd cc;
+      at_first = λ opened none. absurd (some-not w none);
       ran = subst (λ (r : Reading). HasRun s.order end s.tickets r c.args.learned.mirror (following_of c.args.learned.ledger (Some w) c.remove.new.self)) (sym settled)
           (subst (λ (f : Option Following). HasRun s.order end s.tickets (reading_after header news (reading_of (view_of s))) c.args.learned.mirror f) (sym (ap (following_of c.args.learned.ledger (Some w)) left ∙ follows.0))
           (said-ran (view_of s) header used news c.args.learned.mirror bytes said told.unrefused told.learned kept.ran));
@@ -85,21 +89,21 @@ returns-clause-left c = λ content front.
     let front_here = ap (λ (d : Debugger). front_of d.end) c.self.view_is ∙ front in
     let taken : c.take_off.new.self ≡ with_handled (Packet header content) used s.end = c.take_off.ensures (Packet header content) front_here in
     let left : c.remove.new.self ≡ remove s.pending place = c.remove.ensures in
-    let last : c.push.new.self ≡ heads_of s.parked.items ++ reply_head header id_sizes ∷ [] = search rules in
+    let last : c.set_sizes.new.self ≡ heads_of s.parked.items ++ reply_head header id_sizes ∷ [] = c.set_sizes.ensures ∙ ap (λ (ps : List Parked). heads_of ps ++ reply_head header id_sizes ∷ []) c.deref.ensures.value in
     let at : Debugger → Debugger = λ d. with_ledger c.args.learned.ledger (with_sizes (Packet header content) used header place c.args.learned.mirror w d) in
     let whole : record (view_of s) {
       end = c.take_off.new.self;
       mirror = c.args.learned.mirror;
       sizes = Some w;
-      parked = c.clear-2.new.self.items;
+      parked = c.clear.new.self.items;
       pending = c.remove.new.self;
-      last = c.push.new.self;
+      last = c.set_sizes.new.self;
       ledger = c.args.learned.ledger;
     } ≡ at (view_of s) = (λ j. record (view_of s) {
       end = taken j;
       mirror = c.args.learned.mirror;
       sizes = Some w;
-      parked = c.clear-2.ensures.items j;
+      parked = c.clear.ensures.items j;
       pending = left j;
       last = last j;
       ledger = c.args.learned.ledger;

@@ -59,3 +59,7 @@ take_packet-requires-clause-most g c = rw (← c.self.view_is) c.front.ensures.m
 pub returns-in-Packet-clause-shrinks : goal.returns-in-Packet-clause-shrinks
 returns-in-Packet-clause-shrinks g c =
     shrinks-if g.M.Machine.meaning c.args.self.now c.take_packet.new.self c.take_packet.result (rw (← c.self.view_is) c.front.ensures.bytes) c.take_packet.ensures.turns
+
+pub returns-in-Handshake-clause-shrinks : goal.returns-in-Handshake-clause-shrinks
+returns-in-Handshake-clause-shrinks g c =
+    shrinks-if g.M.Machine.meaning c.args.self.now _ _ (rw (← c.self.view_is) c.front.ensures.bytes) (returns-in-Handshake-clause-turns g c)

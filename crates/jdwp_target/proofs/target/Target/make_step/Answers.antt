@@ -1,4 +1,5 @@
-use Rattle.std.proofs.Common.{◌≡◌, ◌∙◌, ◌+◌, ◌∷◌, [], length, false, Some, sym, rules}
+use Rattle.std.proofs.lemmas.Grind.{common_steps}
+use Rattle.std.proofs.Common.{arith, ◌≡◌, ◌∙◌, ◌+◌, ◌∷◌, [], length, false, Some, sym, rules}
 use Rattle.std.proofs.lemmas.List.{length-append}
 use Rattle.jdwp_end.specs.Ends.{is_paused}
 use Rattle.jdwp_debuggee.specs.StepParts as debuggee
@@ -70,3 +71,6 @@ returns-clause-packets g c =
     let flows : is_paused s.end ≡ false = sym c.is_paused.ensures.paused ∙ c.if-is_paused.false in
     let sends = stepped-sends m t s.debuggee c.step.new.self s.end c.sizes-sizes.result c.next_packet-packet.result s.end.limits.packet done step c.sizes-sizes.ensures c.next_packet-packet.ensures c.fits_step.ensures in
     rw (← c.self.view_is) (sends-where m t (target_of s.debuggee s.deferral s.began.items s.phases.items (length s.steps.items) s.end) flows step.may sends)
+
+pub returns-clause-steps : goal.returns-clause-steps
+returns-clause-steps g c = grind (arith, common_steps)

@@ -7,12 +7,13 @@ use Rattle.jdwp_debugger.proofs.Followed.{first-counted, first-follows}
 use Rattle.jdwp_wire.specs.Handshake.{handshake_bytes}
 use Rattle.jdwp_end.specs.Ends.{opened_end, with_enqueued}
 use Rattle.jdwp_mirror.specs.Faults.{PARKED_MOST}
-use Rattle.jdwp_debugger.specs.Debuggers.{AreDistinct, AreOwn, Asked, IsSizesAlone, begun_in, first_in}
+use Rattle.jdwp_debugger.specs.Debuggers.{AreDistinct, AreOwn, Asked, IsSizesAlone, Parked, begun_in, first_in}
 use Rattle.jdwp_debugger.specs.Histories.{nothing}
 use Rattle.jdwp_debugger.specs.News.{EIGHT, Reading}
 use Rattle.jdwp_debugger.proofs.DebuggerRuns.{ran-attached}
 use Rattle.jdwp_debugger.proofs.Keeping.{distinct-none}
-use Rattle.jdwp_debugger.proofs.debugger.Debugger.attach.Goals as goal
+use Rattle.jdwp_debugger.proofs.Still.{some-not}
+use Rattle.jdwp_debugger.proofs.debugger.Debugger.begin_session.Goals as goal
 
 pub invariant_of-self : goal.invariant_of-self
 invariant_of-self c =
@@ -23,8 +24,8 @@ invariant_of-self c =
     let now : Reading = record { order = s.order; sizes = None; parked = c.clear-2.new.self.items; pending = c.clear-3.new.self } in
     let unread : now ≡ (nothing s.order s.tickets).reading = (λ j. record { order = s.order; sizes = None; parked = c.clear-2.ensures.items j; pending = c.clear-3.ensures j }) in
     let follows : following_of c.begin.result None c.clear-3.new.self ≡ begun_in s.order = (λ j. following_of (c.begin.ensures j) None (c.clear-3.ensures j)) ∙ first-follows s.order EIGHT in
-    let few : length c.clear-3.new.self ≤ s.end.limits.pending = search (rules, arith) in
-    let few_parked : length c.clear-2.new.self.items ≤ PARKED_MOST = search (rules, arith) in
+    let few : length c.clear-3.new.self ≤ s.end.limits.pending = subst (λ (ps : List Asked). length ps ≤ s.end.limits.pending) none (omega arith) in
+    let few_parked : length c.clear-2.new.self.items ≤ PARKED_MOST = subst (λ (ps : List Parked). length ps ≤ PARKED_MOST) (sym c.clear-2.ensures.items) (omega arith) in
     rw attached
     (record {
       limits = c.self.invariant.limits;
@@ -35,7 +36,7 @@ invariant_of-self c =
       begins = λ e. (c.clear-3.ensures, c.clear-2.ensures.items, refl);
       alone = λ opened unknown. subst IsSizesAlone none tt;
       unlearned = λ unknown. c.clear.ensures;
-      unparked = λ w known. absurd cc;
+      unparked = λ w known. absurd (some-not w (sym known));
       unfollowed = λ one. c.begin.ensures ∙ ap first_in one;
       counted = subst (λ (l : Option Account). IsCounted l EIGHT c.clear-3.new.self) (sym c.begin.ensures) (subst (λ (ps : List Asked). IsCounted (first_in s.order) EIGHT ps) none (first-counted s.order EIGHT));
       at_first = λ opened unknown. subst (λ (l : Option Account). IsAtFirst s.order l EIGHT c.clear-3.new.self) (sym c.begin.ensures) (subst (λ (ps : List Asked). IsAtFirst s.order (first_in s.order) EIGHT ps) none (first-follows s.order EIGHT));
