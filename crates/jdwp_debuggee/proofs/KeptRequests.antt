@@ -129,6 +129,12 @@ carries-refused m d byte policy modifiers e early late entries are =
       answers = λ c. ap (λ v. (set_by m d.moment byte policy (modifiers_of entries) v).answer) (sym refused);
     }
 
+-- a request that is refused neither before its modifiers are looked at nor later
+pub set-unrefused : {S : Type 0} (m : Meaning S) (d : Debuggee S) (byte policy : ℕ) (modifiers : List ModifierMeaning) → early_refusal d.settings d.moment.state byte policy ≡ None → None ≡ late_refusal m d.moment byte modifiers
+    → set_refusal m d.settings d.moment byte policy modifiers ≡ None
+set-unrefused m d byte policy modifiers early late =
+    late-is (kind_refusal d.settings.profile byte) (unless (nat_le policy POLICY_ALL) ILLEGAL_ARGUMENT) (room_refusal d.settings d.moment.state) (late_refusal m d.moment byte modifiers) early ∙ sym late
+
 -- ---- Exit
 
 pub kept-dead : {S : Type 0} (m : Meaning S) → IsLawful m → (d : Debuggee S) → IsKept m d → IsKept m (at_moment (record { state = dead d.moment.state; machine = all_ended m d.moment.machine (m.live d.moment.machine) }) d)

@@ -12,3 +12,6 @@ returns-clause-list c =
     let es = c.loop-id.entries.items in
     let all : map (λ (e : ThreadEntry). thread_of e 0) es ≡ running (numbers c.args.live.now) = grind (arith, common_steps) in
     ap (λ (ns : List ℕ). threads_of es ns) c.in_ok-counts.ensures.counts ∙ (threads-begin es (length c.args.live.now) ∙ all)
+
+pub loop-id-preserved : goal.loop-id-preserved
+loop-id-preserved c = grind (arith, common_steps)
