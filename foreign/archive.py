@@ -32,6 +32,12 @@ def kit_library():
     return made
 
 
+def yield_memory():
+    """Where memory runs out, the system ends this before the run that it goes on beside."""
+    with open("/proc/self/oom_score_adj", "w", encoding="utf-8") as it:
+        it.write("1000")
+
+
 def wait(names, said):
     """Waits until a run that says so much in this file has proved all of these, or has ended."""
     told = ""
@@ -47,6 +53,7 @@ def main():
     crate = kit_library().Crate(CRATE, ROOT, {}, name="milunovesk_c")
     if said:
         wait({it.name for it in crate.below()}, said)
+        yield_memory()
     lacking = [it.name for it in crate.below() if not os.path.isdir(it.rlib)]
     if lacking:
         print(f"archive.py: {lacking[0]} is not built: run rt ci in a fresh clone first, or rt lib in {CRATE}", file=sys.stderr)
