@@ -126,12 +126,12 @@ impl Connection {
     }
 
     /// Whether the debugger of this connection sent a segment.
-    pub fn is_by_debugger(&self, segment: &Segment<'_>) -> bool {
+    pub(crate) fn is_by_debugger(&self, segment: &Segment<'_>) -> bool {
         segment.from == self.debugger && segment.to == self.target
     }
 
     /// Whether its target did.
-    pub fn is_by_target(&self, segment: &Segment<'_>) -> bool {
+    pub(crate) fn is_by_target(&self, segment: &Segment<'_>) -> bool {
         segment.from == self.target && segment.to == self.debugger
     }
 }
