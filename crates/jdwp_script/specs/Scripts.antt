@@ -78,8 +78,8 @@ slot m d =
     member_of Slot int d >>= λ slot.
     Ok (record { from = from; name = name; signature = signature; len = len; slot = slot })
 
-abbrev pub method_of : Data → Result MethodPart ScriptFault
-method_of d =
+abbrev pub method : Reader MethodPart
+method m d =
     member_of Id whole d >>= λ id.
     member_of Name text d >>= λ name.
     member_of Signature text d >>= λ signature.
@@ -91,11 +91,8 @@ method_of d =
     member_or None Returns (or_null literal) d >>= λ returns.
     Ok (record { id = id; name = name; signature = signature; modifiers = modifiers; args = args; last = last; lines = lines; slots = slots; returns = returns })
 
-abbrev pub method : Reader MethodPart
-method m d = method_of d
-
-abbrev pub class_of : Data → Result ClassPart ScriptFault
-class_of d =
+abbrev pub class : Reader ClassPart
+class m d =
     member_of Id whole d >>= λ id.
     member_of OfTag type_tag d >>= λ tag.
     member_of Signature text d >>= λ signature.
@@ -107,9 +104,6 @@ class_of d =
     member_of Methods (list_of method) d >>= λ methods.
     member_or 0 Module whole d >>= λ module_id.
     Ok (record { id = id; tag = tag; signature = signature; modifiers = modifiers; superclass = superclass; interfaces = interfaces; source = source; fields = fields; methods = methods; «module» = module_id })
-
-abbrev pub class : Reader ClassPart
-class m d = class_of d
 
 -- ---- objects
 

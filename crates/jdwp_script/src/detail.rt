@@ -155,57 +155,31 @@ impl fmt::Display for Cause {
     fn fmt<W: fmt::Write>(&self, f: &mut fmt::Formatter<W>) -> fmt::Result {
         match self {
             Cause::Unsaid => Ok(()),
-            Cause::Mark => f.write_str(": it begins with a byte order mark"),
-            Cause::At(line, column) => two(f, ": line ", line, ", column ", column, ""),
-            Cause::Long(bytes) => one(f, ": a text of more than ", bytes, " bytes"),
-            Cause::Many(list, count) => two(f, ": more than ", count, " entries of ", list, ""),
-            Cause::Deep(count) => one(f, ": more than ", count, " frames at once"),
-            Cause::Living(count) => one(f, ": more than ", count, " threads at the beginning"),
-            Cause::Twice(kind, id) => two(f, ": ", id, " of a ", kind, ""),
-            Cause::Width(width) => one(f, ": a width of ", width, " in place of 1 to 8"),
-            Cause::Zero(kind) => one(f, ": the ", kind, " has id 0"),
-            Cause::Unknown(kind, id) => two(f, ": no ", kind, " ", id, " is known here"),
-            Cause::Bits(bits) => one(f, ": bits ", bits, " past the width of their tag"),
-            Cause::Past(index) => one(f, ": an index ", index, " past the method's last"),
-            Cause::Lines => f.write_str(": lines that don't rise up to the method's last index"),
-            Cause::SlotTwice(slot) => one(f, ": the slot ", slot, " stands twice"),
-            Cause::NoFrame => f.write_str(": a step without a frame"),
-            Cause::Again(kind, id) => two(f, ": the ", kind, " ", id, " begins a second time"),
-            Cause::NeverMade => f.write_str(": a step behind an again is never made"),
-            Cause::Back(back, before) => two(
+            Cause::Mark => write!(f, ": it begins with a byte order mark"),
+            Cause::At(line, column) => write!(f, ": line {line}, column {column}"),
+            Cause::Long(bytes) => write!(f, ": a text of more than {bytes} bytes"),
+            Cause::Many(list, count) => write!(f, ": more than {count} entries of {list}"),
+            Cause::Deep(count) => write!(f, ": more than {count} frames at once"),
+            Cause::Living(count) => write!(f, ": more than {count} threads at the beginning"),
+            Cause::Twice(kind, id) => write!(f, ": {id} of a {kind}"),
+            Cause::Width(width) => write!(f, ": a width of {width} in place of 1 to 8"),
+            Cause::Zero(kind) => write!(f, ": the {kind} has id 0"),
+            Cause::Unknown(kind, id) => write!(f, ": no {kind} {id} is known here"),
+            Cause::Bits(bits) => write!(f, ": bits {bits} past the width of their tag"),
+            Cause::Past(index) => write!(f, ": an index {index} past the method's last"),
+            Cause::Lines => write!(f, ": lines that don't rise up to the method's last index"),
+            Cause::SlotTwice(slot) => write!(f, ": the slot {slot} stands twice"),
+            Cause::NoFrame => write!(f, ": a step without a frame"),
+            Cause::Again(kind, id) => write!(f, ": the {kind} {id} begins a second time"),
+            Cause::NeverMade => write!(f, ": a step behind an again is never made"),
+            Cause::Back(back, before) => write!(
                 f,
-                ": it goes back by ",
-                back,
-                " where ",
-                before,
-                " stand before it",
+                ": it goes back by {back} where {before} stand before it"
             ),
-            Cause::OtherFrames => f.write_str(": it goes back to other frames"),
-            Cause::NobodyLives => f.write_str(": no thread lives at the beginning"),
+            Cause::OtherFrames => write!(f, ": it goes back to other frames"),
+            Cause::NobodyLives => write!(f, ": no thread lives at the beginning"),
         }
     }
-}
-
-/// Writes something between words.
-fn one<W: fmt::Write, T: fmt::Display>(
-    f: &mut fmt::Formatter<W>,
-    before: &str,
-    shown: &T,
-    behind: &str,
-) -> fmt::Result {
-    write!(f, "{before}{shown}{behind}")
-}
-
-/// Writes two things between words.
-fn two<W: fmt::Write, T: fmt::Display, U: fmt::Display>(
-    f: &mut fmt::Formatter<W>,
-    before: &str,
-    first: &T,
-    between: &str,
-    second: &U,
-    behind: &str,
-) -> fmt::Result {
-    write!(f, "{before}{first}{between}{second}{behind}")
 }
 
 /// What is known of a script's fault beside its kind: what it is about, and where in the script it stands. In words it follows those of the

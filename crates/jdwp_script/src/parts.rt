@@ -172,39 +172,18 @@ impl Part for Method {
     ghost reads = { scripts.method };
 
     fn read(alloc: Global, value: &Value, _member: Member) -> Result<Method, ScriptFault> {
-        let mut method = Method {
-            id: MethodId(0),
-            name: String::new(alloc),
-            signature: String::new(alloc),
-            modifiers: 0,
-            args: 0,
-            last: 0,
-            lines: Vec::new(alloc),
-            slots: Vec::new(alloc),
-            returns: None,
-        };
-        read_method(alloc, value, &mut method)?;
-        Ok(method)
+        Ok(Method {
+            id: MethodId(member(alloc, value, Member::Id)?),
+            name: member(alloc, value, Member::Name)?,
+            signature: member(alloc, value, Member::Signature)?,
+            modifiers: member(alloc, value, Member::Modifiers)?,
+            args: member(alloc, value, Member::Args)?,
+            last: member(alloc, value, Member::Last)?,
+            lines: member(alloc, value, Member::Lines)?,
+            slots: member(alloc, value, Member::Slots)?,
+            returns: member_or(alloc, None, value, Member::Returns)?,
+        })
     }
-}
-
-/// Reads the members of a method.
-///
-/// # Errors
-/// What reading the members' values answers.
-fn read_method(alloc: Global, value: &Value, method: &mut Method) -> Result<(), ScriptFault>
-    ensures { Gives (λ _. method_part method.new) result (scripts.method_of (view value.now)) }
-{
-    method.id = MethodId(member(alloc, value, Member::Id)?);
-    method.name = member(alloc, value, Member::Name)?;
-    method.signature = member(alloc, value, Member::Signature)?;
-    method.modifiers = member(alloc, value, Member::Modifiers)?;
-    method.args = member(alloc, value, Member::Args)?;
-    method.last = member(alloc, value, Member::Last)?;
-    method.lines = member(alloc, value, Member::Lines)?;
-    method.slots = member(alloc, value, Member::Slots)?;
-    method.returns = member_or(alloc, None, value, Member::Returns)?;
-    Ok(())
 }
 
 impl Part for Class {
@@ -215,41 +194,19 @@ impl Part for Class {
     ghost reads = { scripts.class };
 
     fn read(alloc: Global, value: &Value, _member: Member) -> Result<Class, ScriptFault> {
-        let mut class = Class {
-            id: ReferenceTypeId(0),
-            tag: TypeTag::Class,
-            signature: String::new(alloc),
-            modifiers: 0,
-            superclass: ReferenceTypeId(0),
-            interfaces: Vec::new(alloc),
-            source: None,
-            fields: Vec::new(alloc),
-            methods: Vec::new(alloc),
-            module: ObjectId(0),
-        };
-        read_class(alloc, value, &mut class)?;
-        Ok(class)
+        Ok(Class {
+            id: ReferenceTypeId(member(alloc, value, Member::Id)?),
+            tag: member(alloc, value, Member::Tag)?,
+            signature: member(alloc, value, Member::Signature)?,
+            modifiers: member(alloc, value, Member::Modifiers)?,
+            superclass: ReferenceTypeId(member(alloc, value, Member::Super)?),
+            interfaces: member(alloc, value, Member::Interfaces)?,
+            source: member(alloc, value, Member::Source)?,
+            fields: member(alloc, value, Member::Fields)?,
+            methods: member(alloc, value, Member::Methods)?,
+            module: ObjectId(member_or(alloc, 0, value, Member::Module)?),
+        })
     }
-}
-
-/// Reads the members of a class.
-///
-/// # Errors
-/// What reading the members' values answers.
-fn read_class(alloc: Global, value: &Value, class: &mut Class) -> Result<(), ScriptFault>
-    ensures { Gives (λ _. class_part class.new) result (scripts.class_of (view value.now)) }
-{
-    class.id = ReferenceTypeId(member(alloc, value, Member::Id)?);
-    class.tag = member(alloc, value, Member::Tag)?;
-    class.signature = member(alloc, value, Member::Signature)?;
-    class.modifiers = member(alloc, value, Member::Modifiers)?;
-    class.superclass = ReferenceTypeId(member(alloc, value, Member::Super)?);
-    class.interfaces = member(alloc, value, Member::Interfaces)?;
-    class.source = member(alloc, value, Member::Source)?;
-    class.fields = member(alloc, value, Member::Fields)?;
-    class.methods = member(alloc, value, Member::Methods)?;
-    class.module = ObjectId(member_or(alloc, 0, value, Member::Module)?);
-    Ok(())
 }
 
 /// A field's id and a value.
@@ -368,40 +325,15 @@ impl Part for Sizes {
 pub(crate) fn script(alloc: Global, value: &Value) -> Result<Script, ScriptFault>
     ensures { Gives script_part result (scripts.script (view value.now)) }
 {
-    let mut script = Script {
-        name: String::new(alloc),
-        sizes: Sizes {
-            field: 0,
-            method: 0,
-            object: 0,
-            reference: 0,
-            frame: 0,
-        },
-        groups: Vec::new(alloc),
-        classes: Vec::new(alloc),
-        objects: Vec::new(alloc),
-        threads: Vec::new(alloc),
-        modules: Vec::new(alloc),
-    };
-    read_script(alloc, value, &mut script)?;
-    Ok(script)
-}
-
-/// Reads the members of a script.
-///
-/// # Errors
-/// What reading the members' values answers.
-fn read_script(alloc: Global, value: &Value, script: &mut Script) -> Result<(), ScriptFault>
-    ensures { Gives (λ _. script_part script.new) result (scripts.script (view value.now)) }
-{
-    script.name = member(alloc, value, Member::Name)?;
-    script.sizes = member(alloc, value, Member::Sizes)?;
-    script.groups = member(alloc, value, Member::Groups)?;
-    script.classes = member(alloc, value, Member::Classes)?;
-    script.objects = member(alloc, value, Member::Objects)?;
-    script.threads = member(alloc, value, Member::Threads)?;
-    script.modules = modules(alloc, value)?;
-    Ok(())
+    Ok(Script {
+        name: member(alloc, value, Member::Name)?,
+        sizes: member(alloc, value, Member::Sizes)?,
+        groups: member(alloc, value, Member::Groups)?,
+        classes: member(alloc, value, Member::Classes)?,
+        objects: member(alloc, value, Member::Objects)?,
+        threads: member(alloc, value, Member::Threads)?,
+        modules: modules(alloc, value)?,
+    })
 }
 
 /// The modules of a script: none where it has no such member.

@@ -1,6 +1,6 @@
 use Rattle.std.proofs.lemmas.Grind.{common_steps}
 use Rattle.std.proofs.Common.{arith}
-use Rattle.jdwp_script.proofs.parts.read_method.Goals as goal
+use Rattle.jdwp_script.proofs.parts.MethodPart.read.Goals as goal
 
 pub returns : goal.returns
 returns c = grind (arith, common_steps)
